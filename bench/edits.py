@@ -1,5 +1,6 @@
 #!/usr/bin/env python3
 """Tries must-fail edits over what `rt check` kept, one processor, seconds an edit: `rt must-fail` first proves the crate from nothing.
+Beside those of the gate it tries those that stand in bench/edits/NAME, for which the gate has no time.
 
 Run it at the top of the checkout, where every crate named is proved (`rt check` in its folder). A crate is NAME, or NAME:WORD for the
 edits with this word in their names. Printed is a line for each edit: OK where the prover refuses it, else BAD, and the seconds. It uses
@@ -46,7 +47,7 @@ def main():
             kept = shutil.copytree(f"{crate.folder}/out/incremental", f"{room}/kept")
             if rt.checked(crate, {}, FLAGS, kept).returncode:
                 sys.exit(f"{name} is not proved as it stands: rt check in its folder first")
-            for edit in sorted(glob.glob(f"{crate.folder}/must-fail/*{word}*.edit")):
+            for edit in sorted(glob.glob(f"{crate.folder}/must-fail/*{word}*.edit") + glob.glob(f"{root}/bench/edits/{name}/*{word}*.edit")):
                 begun = time.time()
                 is_refused, said = rt.must_fail(crate, edit, FLAGS, kept)
                 bad += not is_refused

@@ -108,7 +108,7 @@ fn recipient_number(sender: &SenderKey, verdict: &Verdict) -> [u8; 20]
     ensures { result ≡ recipient_number sender.now verdict.now }
 {
     match verdict {
-        Verdict::Accepted { ordinal, .. } => joined(
+        Verdict::Accepted { ordinal, .. } => concatenate(
             sender.sender_id(),
             &last_digits::<11>(*ordinal),
         ),
@@ -117,7 +117,7 @@ fn recipient_number(sender: &SenderKey, verdict: &Verdict) -> [u8; 20]
 }
 
 // Nine bytes and eleven behind them.
-fn joined(front: &[u8], back: &[u8; 11]) -> [u8; 20]
+fn concatenate(front: &[u8], back: &[u8; 11]) -> [u8; 20]
     requires { length front.now ≡ 9 }
     ensures { result ≡ front.now ++ back.now }
 {
@@ -141,14 +141,14 @@ fn status<'a>(verdict: &Verdict) -> Fixed<'a, 2>
 fn title<'a>(transaction: &Transaction<'a>) -> Fixed<'a, 60>
     ensures { result ≡ fill_field 60 (title_of transaction.now) }
 {
-    transaction.title().widened()
+    transaction.title().widen()
 }
 
 // A transaction's work number, as it came.
 fn submitter_number<'a>(transaction: &Transaction<'a>) -> Fixed<'a, 20>
     ensures { result ≡ fill_field 20 (submitter_number (first_work transaction.now.records)) }
 {
-    transaction.submitter_number().widened()
+    transaction.submitter_number().widen()
 }
 
 // Appends the ACK line of the transaction with this number, from 0.
@@ -174,7 +174,7 @@ fn append_ack(
         creation_time: original.creation_time.again(),
         original_group: whole(&original_group),
         original_sequence: whole(&original_sequence),
-        original_type: transaction.kind.code().fixed(),
+        original_type: transaction.kind.code().to_fixed(),
         title: title(transaction),
         submitter_number: submitter_number(transaction),
         recipient_number: whole(&recipient),

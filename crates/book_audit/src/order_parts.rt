@@ -44,7 +44,7 @@ fn append<T: Drop>(
 }
 
 // The items of a pool, none where it has none.
-fn listed<T>(lists: &BTreeMap<u32, Vec<T>>, pool: u32) -> &[T]
+fn items_of<T>(lists: &BTreeMap<u32, Vec<T>>, pool: u32) -> &[T]
     ensures { result.now ≡ items_kept lists.now pool }
 {
     match lists.get(&pool) {
@@ -173,14 +173,14 @@ impl OrderParts {
     pub(crate) fn cut_of(&self, pool: u32) -> &[(SenderKey, u64)]
         ensures { result.now ≡ cut_kept self.now pool }
     {
-        listed(&self.cuts, pool)
+        items_of(&self.cuts, pool)
     }
 
     /// The reporters and the numbers of the returns that a pool pays, in the order of the rows.
     pub(crate) fn returns_of(&self, pool: u32) -> &[(Reporter, u64)]
         ensures { result.now ≡ returns_kept self.now pool }
     {
-        listed(&self.returns, pool)
+        items_of(&self.returns, pool)
     }
 
     /// The right that a pool pays.

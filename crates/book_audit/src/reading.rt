@@ -63,7 +63,7 @@ pub(crate) fn owners_of<S: Alter>(
 /// was read no part is missing, so `Unread` is told of none.
 pub fn worked_out<X: Drop>(found: Result<X, RowFault>) -> Result<X, AuditFault>
     ensures value { IfOk result (λ x. found ≡ Ok x) }
-    ensures fault { IfErr result (λ fault. fault ≡ Memory) }
+    ensures err { IfErr result (λ fault. fault ≡ Memory) }
 {
     match found {
         Ok(x) => Ok(x),

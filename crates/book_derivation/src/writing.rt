@@ -9,7 +9,7 @@ use society_rows::RowFault;
 /// What a fault of a write is told as: `Store` where it tells of the database's medium, and else `Memory`, which no rows of a book bring
 /// about but want of memory.
 pub fn fault_of_writing(fault: &RowFault) -> AuditFault
-    ensures told { result ≡ writing_fault_by fault.now }
+    ensures value { result ≡ writing_fault_by fault.now }
 {
     if fault.is_of_medium() {
         AuditFault::Store
@@ -21,7 +21,7 @@ pub fn fault_of_writing(fault: &RowFault) -> AuditFault
 /// What was written, or why it was not.
 pub(crate) fn wrote(done: Result<(), RowFault>) -> Result<(), AuditFault>
     ensures done { IfOk result (λ _. done ≡ Ok tt) }
-    ensures fault { IfErr result (λ e. IsErrAnd done (λ fault. e ≡ writing_fault_by fault)) }
+    ensures err { IfErr result (λ e. IsErrAnd done (λ fault. e ≡ writing_fault_by fault)) }
 {
     match done {
         Ok(()) => Ok(()),

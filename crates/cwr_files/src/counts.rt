@@ -93,15 +93,15 @@ fn counts_after(counts: &Counts, line: &Line) -> Counts
     ensures { result ≡ counts_after counts.now line.now }
 {
     match counts.stage {
-        Stage::Header => moved(counts, Stage::Between),
+        Stage::Header => advance(counts, Stage::Between),
         Stage::Between => after_between(counts, line),
         Stage::Within(group) => after_record(counts, &group, line),
-        Stage::Ended => moved(counts, Stage::Ended),
+        Stage::Ended => advance(counts, Stage::Ended),
     }
 }
 
 // The counts one line on, at a stage.
-fn moved(counts: &Counts, stage: Stage) -> Counts
+fn advance(counts: &Counts, stage: Stage) -> Counts
     requires { counts.now.lines < 2 ^ 63 }
     ensures { result ≡ record counts.now { lines = counts.now.lines + 1; stage = stage } }
 {
@@ -120,7 +120,7 @@ fn after_between(counts: &Counts, line: &Line) -> Counts
     ensures { result ≡ after_in Between counts.now line.now }
 {
     if !has_type(line, b"GRH") {
-        return moved(counts, Stage::Ended);
+        return advance(counts, Stage::Ended);
     }
     let opened = OpenGroup {
         kind: type_of_group(line),
@@ -143,7 +143,7 @@ fn after_record(counts: &Counts, group: &OpenGroup, line: &Line) -> Counts
     ensures { result ≡ after_in (Within group.now) counts.now line.now }
 {
     if has_type(line, b"GRT") {
-        return moved(counts, Stage::Between);
+        return advance(counts, Stage::Between);
     }
     let transactions = if has_type(line, &group.kind) {
         counts.transactions + 1

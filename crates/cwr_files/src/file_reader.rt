@@ -11,7 +11,7 @@ use crate::fault::{FileFault, ReadFault};
 use crate::fault_finder::last_fault;
 use crate::limits::MAX_BODY;
 use crate::progress::{Progress, read_on};
-use crate::reader::told;
+use crate::reader::read_judged;
 use crate::transmission::Transmission;
 use std::alloc::Global;
 use std::marker::Model;
@@ -83,9 +83,9 @@ impl FileReader {
         ensures found { IfOk result (IsTransmission self.now.body self.now.sender) }
         ensures only { (t : Transmission) → IsTransmission self.now.body self.now.sender t → AnswersTransmission t result }
         ensures reads { IfOk result (λ t. t ≡ transmission_in self.now.body) }
-        ensures fault { TellsFault (file_fault self.now.sender self.now.body) result }
+        ensures err { TellsFault (file_fault self.now.sender self.now.body) result }
     {
-        told(alloc, self.body.as_slice(), &self.sender, self.fault())
+        read_judged(alloc, self.body.as_slice(), &self.sender, self.fault())
     }
 
     /// The file fault of the bytes that were fed, as a whole body; `None` where they are a transmission of the sender. Takes

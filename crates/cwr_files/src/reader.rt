@@ -23,13 +23,13 @@ pub fn read_transmission<'a>(
     ensures found { IfOk result (IsTransmission body.now sender.now) }
     ensures only { (t : Transmission) → IsTransmission body.now sender.now t → AnswersTransmission t result }
     ensures reads { IfOk result (λ t. t ≡ transmission_in body.now) }
-    ensures fault { TellsFault (file_fault sender.now body.now) result }
+    ensures err { TellsFault (file_fault sender.now body.now) result }
 {
-    told(alloc, body, sender, find_fault(body, sender))
+    read_judged(alloc, body, sender, find_fault(body, sender))
 }
 
 /// What a body is, whose file fault is this one.
-pub fn told<'a>(
+pub fn read_judged<'a>(
     alloc: Global,
     body: &'a [u8],
     sender: &SenderKey,
@@ -39,7 +39,7 @@ pub fn told<'a>(
     ensures found { IfOk result (IsTransmission body.now sender.now) }
     ensures only { (t : Transmission) → IsTransmission body.now sender.now t → AnswersTransmission t result }
     ensures reads { IfOk result (λ t. t ≡ transmission_in body.now) }
-    ensures fault { TellsFault (file_fault sender.now body.now) result }
+    ensures err { TellsFault (file_fault sender.now body.now) result }
 {
     if let Some(fault) = fault {
         return Err(ReadFault::File(fault));

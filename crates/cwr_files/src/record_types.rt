@@ -29,7 +29,7 @@ pub fn is_frame(line: &Line) -> bool
 pub fn record_type(line: &Line) -> [u8; 3]
     ensures { result ≡ record_type_in line.now }
 {
-    line.record_type().fixed::<3>().to_bytes()
+    line.record_type().to_fixed::<3>().to_bytes()
 }
 
 /// The transaction type of a group header.

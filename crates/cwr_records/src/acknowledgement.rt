@@ -1,10 +1,6 @@
 //! The record of an acknowledgement.
-use crate::field::Field;
-use crate::fixed::Fixed;
-use crate::kind::RecordKind;
-use crate::layout::{
-    Layout, LineFields, Position, RECORD_SEQUENCE, RECORD_TYPE, TRANSACTION_SEQUENCE,
-};
+use crate::layout::{RECORD_SEQUENCE, RECORD_TYPE, TRANSACTION_SEQUENCE};
+use crate::{Field, Fixed, LineFields, Position, RecordKind};
 
 /// ACK, what became of a transaction. Its dates are YYYYMMDD, its time is HHMMSS, its status is AS (accepted) or RJ
 /// (rejected).
@@ -28,58 +24,31 @@ const ACKNOWLEDGEMENT: [Position; 13] = [
     RECORD_TYPE,
     TRANSACTION_SEQUENCE,
     RECORD_SEQUENCE,
-    // original creation date
-    Position { from: 20, to: 27 },
-    // original creation time
-    Position { from: 28, to: 33 },
-    // original group ID
-    Position { from: 34, to: 38 },
-    // original transaction sequence
-    Position { from: 39, to: 46 },
-    // original transaction type
-    Position { from: 47, to: 49 },
-    // creation title
-    Position { from: 50, to: 109 },
-    // submitter creation number
-    Position { from: 110, to: 129 },
-    // recipient creation number
-    Position { from: 130, to: 149 },
-    // processing date
-    Position { from: 150, to: 157 },
-    // status
-    Position { from: 158, to: 159 },
+    Position { from: 20, to: 27 }, // original creation date
+    Position { from: 28, to: 33 }, // original creation time
+    Position { from: 34, to: 38 }, // original group ID
+    Position { from: 39, to: 46 }, // original transaction sequence
+    Position { from: 47, to: 49 }, // original transaction type
+    Position { from: 50, to: 109 }, // creation title
+    Position { from: 110, to: 129 }, // submitter creation number
+    Position { from: 130, to: 149 }, // recipient creation number
+    Position { from: 150, to: 157 }, // processing date
+    Position { from: 158, to: 159 }, // status
 ];
 
-impl<'a> Layout for AcknowledgementRecord<'a> {
-    ghost use Rattle.std.specs.Prelude.{◌≡◌, refl};
+impl<'a> RecordKind<'a> for AcknowledgementRecord<'a> {
+    ghost use Rattle.std.specs.Prelude.{◌≡◌};
     ghost use Rattle.cwr_records.specs.Layouts.{positions_of};
-    ghost use Rattle.cwr_records.specs.Places.{acknowledgement_places};
-    ghost use Rattle.cwr_records.specs.Records.{acknowledgement_of, acknowledgement_contents};
-    ghost use Rattle.cwr_records.specs.ReadBack.{acknowledgement_read_back};
-    ghost use Rattle.cwr_records.specs.declared.record.Record.TheVariants as variant;
+    ghost use Rattle.cwr_records.specs.Kinds.{acknowledgement};
 
-    ghost places = { acknowledgement_places };
-
-    ghost of_line = { acknowledgement_of };
-
-    ghost contents = { acknowledgement_contents };
-
-    ghost as_record = { variant.Acknowledgement };
+    ghost kind = { acknowledgement };
 
     fn positions() -> &'static [Position]
-        ensures { result.now ≡ positions_of acknowledgement_places }
+        ensures { result.now ≡ positions_of acknowledgement.places }
     {
         &ACKNOWLEDGEMENT
     }
 
-    ghost in_order = { refl };
-
-    ghost counted = { λ _. refl };
-
-    ghost read_back = { acknowledgement_read_back };
-}
-
-impl<'a> RecordKind<'a> for AcknowledgementRecord<'a> {
     fn from_fields(fields: &LineFields<'a>) -> AcknowledgementRecord<'a> {
         AcknowledgementRecord {
             transaction_sequence: fields.at(1),

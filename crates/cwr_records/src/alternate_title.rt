@@ -1,10 +1,6 @@
 //! A further title of a work.
-use crate::field::Field;
-use crate::fixed::Fixed;
-use crate::kind::RecordKind;
-use crate::layout::{
-    Layout, LineFields, Position, RECORD_SEQUENCE, RECORD_TYPE, TRANSACTION_SEQUENCE,
-};
+use crate::layout::{RECORD_SEQUENCE, RECORD_TYPE, TRANSACTION_SEQUENCE};
+use crate::{Field, Fixed, LineFields, Position, RecordKind};
 
 /// ALT, a further title of a work.
 #[derive(Drop)]
@@ -20,44 +16,24 @@ const ALTERNATE_TITLE: [Position; 6] = [
     RECORD_TYPE,
     TRANSACTION_SEQUENCE,
     RECORD_SEQUENCE,
-    // title
-    Position { from: 20, to: 79 },
-    // title type
-    Position { from: 80, to: 81 },
-    // language
-    Position { from: 82, to: 83 },
+    Position { from: 20, to: 79 }, // title
+    Position { from: 80, to: 81 }, // title type
+    Position { from: 82, to: 83 }, // language
 ];
 
-impl<'a> Layout for AlternateTitle<'a> {
-    ghost use Rattle.std.specs.Prelude.{◌≡◌, refl};
+impl<'a> RecordKind<'a> for AlternateTitle<'a> {
+    ghost use Rattle.std.specs.Prelude.{◌≡◌};
     ghost use Rattle.cwr_records.specs.Layouts.{positions_of};
-    ghost use Rattle.cwr_records.specs.Places.{alternate_title_places};
-    ghost use Rattle.cwr_records.specs.Records.{alternate_title_of, alternate_title_contents};
-    ghost use Rattle.cwr_records.specs.ReadBack.{alternate_title_read_back};
-    ghost use Rattle.cwr_records.specs.declared.record.Record.TheVariants as variant;
+    ghost use Rattle.cwr_records.specs.Kinds.{alternate_title};
 
-    ghost places = { alternate_title_places };
-
-    ghost of_line = { alternate_title_of };
-
-    ghost contents = { alternate_title_contents };
-
-    ghost as_record = { variant.AlternateTitle };
+    ghost kind = { alternate_title };
 
     fn positions() -> &'static [Position]
-        ensures { result.now ≡ positions_of alternate_title_places }
+        ensures { result.now ≡ positions_of alternate_title.places }
     {
         &ALTERNATE_TITLE
     }
 
-    ghost in_order = { refl };
-
-    ghost counted = { λ _. refl };
-
-    ghost read_back = { alternate_title_read_back };
-}
-
-impl<'a> RecordKind<'a> for AlternateTitle<'a> {
     fn from_fields(fields: &LineFields<'a>) -> AlternateTitle<'a> {
         AlternateTitle {
             transaction_sequence: fields.at(1),

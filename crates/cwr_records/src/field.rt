@@ -4,9 +4,9 @@ ghost use Rattle.work_ids.specs.Blanks.{trimmed, without_trailing_blanks};
 ghost use Rattle.work_ids.specs.Digits.{decimal_value};
 ghost use Rattle.cwr_records.specs.Lines.{fill_field, is_blank};
 
-use crate::fixed::Fixed;
+use crate::Fixed;
 use std::marker::Model;
-use work_ids::{are_blank, number, trimmed, without_trailing_blanks};
+use work_ids::{are_blank, number, trim, without_trailing_blanks};
 
 /// A field: the bytes that its line has there, lent, and blanks past the line's end.
 #[derive(Drop)]
@@ -42,7 +42,7 @@ impl<'a> Field<'a> {
     }
 
     /// The field, as one with its width in its type.
-    pub fn fixed<const WIDTH: usize>(&self) -> Fixed<'a, WIDTH>
+    pub fn to_fixed<const WIDTH: usize>(&self) -> Fixed<'a, WIDTH>
         requires { length self.now ≡ WIDTH }
         ensures { result ≡ self.now }
     {
@@ -109,11 +109,11 @@ impl<'a> Field<'a> {
     }
 
     /// The bytes without the blanks at both ends.
-    pub fn trimmed(&self) -> &'a [u8]
+    pub fn trim(&self) -> &'a [u8]
         ensures value { result.now ≡ trimmed self.now }
         ensures within { length result.now ≤ length self.now }
     {
-        trimmed(self.present)
+        trim(self.present)
     }
 
     /// The bytes without the blanks at their end.
@@ -125,7 +125,7 @@ impl<'a> Field<'a> {
     }
 
     /// The field with more blanks behind it.
-    pub fn widened<const WIDTH: usize>(&self) -> Fixed<'a, WIDTH>
+    pub fn widen<const WIDTH: usize>(&self) -> Fixed<'a, WIDTH>
         requires { length self.now ≤ WIDTH }
         ensures { result ≡ fill_field WIDTH self.now }
     {

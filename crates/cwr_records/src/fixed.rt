@@ -2,7 +2,7 @@
 ghost use Rattle.std.specs.Prelude.{◌≡◌, ◌≤◌, ◌-◌, ◌++◌, ℕ, List, length, replicate};
 ghost use Rattle.cwr_records.specs.Lines.{fill_field};
 
-use crate::field::Field;
+use crate::Field;
 use std::marker::Model;
 
 /// A field of `WIDTH` bytes: lent bytes, and blanks after them.

@@ -1,8 +1,6 @@
 //! The header of a group.
-use crate::field::Field;
-use crate::fixed::Fixed;
-use crate::kind::RecordKind;
-use crate::layout::{Layout, LineFields, Position, RECORD_TYPE};
+use crate::layout::RECORD_TYPE;
+use crate::{Field, Fixed, LineFields, Position, RecordKind};
 
 /// GRH, the header of a group.
 #[derive(Drop)]
@@ -16,48 +14,26 @@ pub struct GroupHeader<'a> {
 
 const GROUP_HEADER: [Position; 6] = [
     RECORD_TYPE,
-    // transaction type
-    Position { from: 4, to: 6 },
-    // group ID
-    Position { from: 7, to: 11 },
-    // version
-    Position { from: 12, to: 16 },
-    // batch request
-    Position { from: 17, to: 26 },
-    // submission type
-    Position { from: 27, to: 28 },
+    Position { from: 4, to: 6 }, // transaction type
+    Position { from: 7, to: 11 }, // group ID
+    Position { from: 12, to: 16 }, // version
+    Position { from: 17, to: 26 }, // batch request
+    Position { from: 27, to: 28 }, // submission type
 ];
 
-impl<'a> Layout for GroupHeader<'a> {
-    ghost use Rattle.std.specs.Prelude.{◌≡◌, refl};
+impl<'a> RecordKind<'a> for GroupHeader<'a> {
+    ghost use Rattle.std.specs.Prelude.{◌≡◌};
     ghost use Rattle.cwr_records.specs.Layouts.{positions_of};
-    ghost use Rattle.cwr_records.specs.Places.{group_header_places};
-    ghost use Rattle.cwr_records.specs.Records.{group_header_of, group_header_contents};
-    ghost use Rattle.cwr_records.specs.ReadBack.{group_header_read_back};
-    ghost use Rattle.cwr_records.specs.declared.record.Record.TheVariants as variant;
+    ghost use Rattle.cwr_records.specs.Kinds.{group_header};
 
-    ghost places = { group_header_places };
-
-    ghost of_line = { group_header_of };
-
-    ghost contents = { group_header_contents };
-
-    ghost as_record = { variant.GroupHeader };
+    ghost kind = { group_header };
 
     fn positions() -> &'static [Position]
-        ensures { result.now ≡ positions_of group_header_places }
+        ensures { result.now ≡ positions_of group_header.places }
     {
         &GROUP_HEADER
     }
 
-    ghost in_order = { refl };
-
-    ghost counted = { λ _. refl };
-
-    ghost read_back = { group_header_read_back };
-}
-
-impl<'a> RecordKind<'a> for GroupHeader<'a> {
     fn from_fields(fields: &LineFields<'a>) -> GroupHeader<'a> {
         GroupHeader {
             transaction_type: fields.at(1),

@@ -1,8 +1,6 @@
 //! The trailer of a group.
-use crate::field::Field;
-use crate::fixed::Fixed;
-use crate::kind::RecordKind;
-use crate::layout::{Layout, LineFields, Position, RECORD_TYPE};
+use crate::layout::RECORD_TYPE;
+use crate::{Field, Fixed, LineFields, Position, RecordKind};
 
 /// GRT, the trailer of a group, with its counts.
 #[derive(Drop)]
@@ -14,44 +12,24 @@ pub struct GroupTrailer<'a> {
 
 const GROUP_TRAILER: [Position; 4] = [
     RECORD_TYPE,
-    // group ID
-    Position { from: 4, to: 8 },
-    // transaction count
-    Position { from: 9, to: 16 },
-    // record count
-    Position { from: 17, to: 24 },
+    Position { from: 4, to: 8 }, // group ID
+    Position { from: 9, to: 16 }, // transaction count
+    Position { from: 17, to: 24 }, // record count
 ];
 
-impl<'a> Layout for GroupTrailer<'a> {
-    ghost use Rattle.std.specs.Prelude.{◌≡◌, refl};
+impl<'a> RecordKind<'a> for GroupTrailer<'a> {
+    ghost use Rattle.std.specs.Prelude.{◌≡◌};
     ghost use Rattle.cwr_records.specs.Layouts.{positions_of};
-    ghost use Rattle.cwr_records.specs.Places.{group_trailer_places};
-    ghost use Rattle.cwr_records.specs.Records.{group_trailer_of, group_trailer_contents};
-    ghost use Rattle.cwr_records.specs.ReadBack.{group_trailer_read_back};
-    ghost use Rattle.cwr_records.specs.declared.record.Record.TheVariants as variant;
+    ghost use Rattle.cwr_records.specs.Kinds.{group_trailer};
 
-    ghost places = { group_trailer_places };
-
-    ghost of_line = { group_trailer_of };
-
-    ghost contents = { group_trailer_contents };
-
-    ghost as_record = { variant.GroupTrailer };
+    ghost kind = { group_trailer };
 
     fn positions() -> &'static [Position]
-        ensures { result.now ≡ positions_of group_trailer_places }
+        ensures { result.now ≡ positions_of group_trailer.places }
     {
         &GROUP_TRAILER
     }
 
-    ghost in_order = { refl };
-
-    ghost counted = { λ _. refl };
-
-    ghost read_back = { group_trailer_read_back };
-}
-
-impl<'a> RecordKind<'a> for GroupTrailer<'a> {
     fn from_fields(fields: &LineFields<'a>) -> GroupTrailer<'a> {
         GroupTrailer {
             group_id: fields.at(1),

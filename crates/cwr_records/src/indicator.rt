@@ -1,5 +1,5 @@
 //! Whether a territory row includes its territory.
-use crate::field::Field;
+use crate::Field;
 
 /// Whether a territory row includes or excludes its territory.
 #[derive(Clone, Copy, Debug, PartialEq, Eq)]

@@ -2,8 +2,7 @@
 ghost use Rattle.std.specs.Prelude.{◌≡◌, ◌<◌, length, get_or, IsTrue};
 ghost use Rattle.cwr_records.specs.Layouts.{is_wide, field_at, nowhere};
 
-use crate::fixed::Fixed;
-use crate::line::Line;
+use crate::{Fixed, Line};
 
 /// Where a field stands in its line, both ends counted from 1.
 #[derive(Clone, Copy)]
@@ -21,35 +20,6 @@ pub(crate) const TRANSACTION_SEQUENCE: Position = Position { from: 4, to: 11 };
 /// Where a record of a transaction has its record sequence number (CISAC CWR 2.2).
 pub(crate) const RECORD_SEQUENCE: Position = Position { from: 12, to: 19 };
 
-/// A record type's layout: the places of its fields, the record that a line is by them, and what a record has there.
-pub trait Layout: Sized {
-    ghost use Rattle.std.specs.Prelude.{◌≡◌, ℕ, List, length, IsTrue};
-    ghost use Rattle.cwr_records.specs.Layouts.{Place, positions_of, fields_at, is_layout};
-    ghost use Rattle.cwr_records.specs.Records.{record_of};
-    ghost use Rattle.cwr_records.specs.declared.record.Record.{Record};
-
-    ghost places: { List Place };
-
-    ghost of_line: { List ℕ → Self };
-
-    ghost contents: { Self → List (List ℕ) };
-
-    ghost as_record: { Self → Record };
-
-    /// The positions of the fields, in order.
-    fn positions() -> &'static [Position]
-        ensures { result.now ≡ positions_of places };
-
-    // The places come one after another and do not overlap.
-    ghost in_order: { IsTrue (is_layout places) };
-
-    // A record has as many contents as there are places.
-    ghost counted: { (r : Self) → length (contents r) ≡ length places };
-
-    // A line with a record's contents at the places is read as that record.
-    ghost read_back: { (r : Self) (line : List ℕ) → fields_at (positions_of places) line ≡ contents r → record_of line ≡ as_record r };
-}
-
 /// The fields of a line at the positions of a layout.
 #[derive(Drop)]
 pub struct LineFields<'a> {
@@ -64,7 +34,7 @@ impl<'a> LineFields<'a> {
         ensures { result ≡ field_at self.now.positions.now index self.now.line }
     {
         let position = position_at(self.positions, index);
-        self.line.at(position).fixed()
+        self.line.at(position).to_fixed()
     }
 }
 

@@ -4,8 +4,8 @@ ghost use Rattle.cwr_records.specs.Layouts.{field_in, width_of};
 ghost use Rattle.cwr_records.specs.Places.{record_sequence_in, record_type_in, transaction_sequence_in};
 ghost use Rattle.cwr_records.specs.Lines.{field, fill_field, has_line_end, is_blank, line_of_piece, pieces, without_last, IsFirstLine, IsWholePiece};
 
-use crate::field::Field;
-use crate::layout::{Position, RECORD_SEQUENCE, RECORD_TYPE, TRANSACTION_SEQUENCE};
+use crate::layout::{RECORD_SEQUENCE, RECORD_TYPE, TRANSACTION_SEQUENCE};
+use crate::{Field, Position};
 use memchr::memchr;
 use std::marker::Model;
 use work_ids::are_blank;

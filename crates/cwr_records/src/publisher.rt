@@ -1,10 +1,6 @@
 //! Publishers.
-use crate::field::Field;
-use crate::fixed::Fixed;
-use crate::kind::RecordKind;
-use crate::layout::{
-    Layout, LineFields, Position, RECORD_SEQUENCE, RECORD_TYPE, TRANSACTION_SEQUENCE,
-};
+use crate::layout::{RECORD_SEQUENCE, RECORD_TYPE, TRANSACTION_SEQUENCE};
+use crate::{Field, Fixed, LineFields, Position, RecordKind};
 
 /// Whether a publisher is controlled by the submitter.
 #[derive(Clone, Copy, Debug, PartialEq, Eq)]
@@ -68,66 +64,35 @@ const PUBLISHER: [Position; 17] = [
     RECORD_TYPE,
     TRANSACTION_SEQUENCE,
     RECORD_SEQUENCE,
-    // publisher sequence
-    Position { from: 20, to: 21 },
-    // IP #
-    Position { from: 22, to: 30 },
-    // name
-    Position { from: 31, to: 75 },
-    // unknown indicator
-    Position { from: 76, to: 76 },
-    // publisher type
-    Position { from: 77, to: 78 },
-    // tax ID
-    Position { from: 79, to: 87 },
-    // IPI name number
-    Position { from: 88, to: 98 },
-    // submitter agreement number
-    Position { from: 99, to: 112 },
-    // PR society
-    Position { from: 113, to: 115 },
-    // PR share
-    Position { from: 116, to: 120 },
-    // MR society
-    Position { from: 121, to: 123 },
-    // MR share
-    Position { from: 124, to: 128 },
-    // SR society
-    Position { from: 129, to: 131 },
-    // SR share
-    Position { from: 132, to: 136 },
+    Position { from: 20, to: 21 }, // publisher sequence
+    Position { from: 22, to: 30 }, // IP #
+    Position { from: 31, to: 75 }, // name
+    Position { from: 76, to: 76 }, // unknown indicator
+    Position { from: 77, to: 78 }, // publisher type
+    Position { from: 79, to: 87 }, // tax ID
+    Position { from: 88, to: 98 }, // IPI name number
+    Position { from: 99, to: 112 }, // submitter agreement number
+    Position { from: 113, to: 115 }, // PR society
+    Position { from: 116, to: 120 }, // PR share
+    Position { from: 121, to: 123 }, // MR society
+    Position { from: 124, to: 128 }, // MR share
+    Position { from: 129, to: 131 }, // SR society
+    Position { from: 132, to: 136 }, // SR share
 ];
 
-impl<'a> Layout for PublisherRecord<'a> {
-    ghost use Rattle.std.specs.Prelude.{◌≡◌, refl};
+impl<'a> RecordKind<'a> for PublisherRecord<'a> {
+    ghost use Rattle.std.specs.Prelude.{◌≡◌};
     ghost use Rattle.cwr_records.specs.Layouts.{positions_of};
-    ghost use Rattle.cwr_records.specs.Places.{publisher_places};
-    ghost use Rattle.cwr_records.specs.Records.{publisher_of, publisher_contents};
-    ghost use Rattle.cwr_records.specs.ReadBack.{publisher_read_back};
-    ghost use Rattle.cwr_records.specs.declared.record.Record.TheVariants as variant;
+    ghost use Rattle.cwr_records.specs.Kinds.{publisher};
 
-    ghost places = { publisher_places };
-
-    ghost of_line = { publisher_of };
-
-    ghost contents = { publisher_contents };
-
-    ghost as_record = { variant.Publisher };
+    ghost kind = { publisher };
 
     fn positions() -> &'static [Position]
-        ensures { result.now ≡ positions_of publisher_places }
+        ensures { result.now ≡ positions_of publisher.places }
     {
         &PUBLISHER
     }
 
-    ghost in_order = { refl };
-
-    ghost counted = { λ _. refl };
-
-    ghost read_back = { publisher_read_back };
-}
-
-impl<'a> RecordKind<'a> for PublisherRecord<'a> {
     fn from_fields(fields: &LineFields<'a>) -> PublisherRecord<'a> {
         PublisherRecord {
             role: PublisherRole::of(&fields.at(0)),

@@ -1,10 +1,6 @@
 //! The publisher of a writer.
-use crate::field::Field;
-use crate::fixed::Fixed;
-use crate::kind::RecordKind;
-use crate::layout::{
-    Layout, LineFields, Position, RECORD_SEQUENCE, RECORD_TYPE, TRANSACTION_SEQUENCE,
-};
+use crate::layout::{RECORD_SEQUENCE, RECORD_TYPE, TRANSACTION_SEQUENCE};
+use crate::{Field, Fixed, LineFields, Position, RecordKind};
 
 /// PWR, the publisher that represents a writer.
 #[derive(Drop)]
@@ -22,48 +18,26 @@ const PUBLISHER_FOR_WRITER: [Position; 8] = [
     RECORD_TYPE,
     TRANSACTION_SEQUENCE,
     RECORD_SEQUENCE,
-    // publisher IP #
-    Position { from: 20, to: 28 },
-    // publisher name
-    Position { from: 29, to: 73 },
-    // submitter agreement number
-    Position { from: 74, to: 87 },
-    // society agreement number
-    Position { from: 88, to: 101 },
-    // writer IP #
-    Position { from: 102, to: 110 },
+    Position { from: 20, to: 28 }, // publisher IP #
+    Position { from: 29, to: 73 }, // publisher name
+    Position { from: 74, to: 87 }, // submitter agreement number
+    Position { from: 88, to: 101 }, // society agreement number
+    Position { from: 102, to: 110 }, // writer IP #
 ];
 
-impl<'a> Layout for PublisherForWriter<'a> {
-    ghost use Rattle.std.specs.Prelude.{◌≡◌, refl};
+impl<'a> RecordKind<'a> for PublisherForWriter<'a> {
+    ghost use Rattle.std.specs.Prelude.{◌≡◌};
     ghost use Rattle.cwr_records.specs.Layouts.{positions_of};
-    ghost use Rattle.cwr_records.specs.Places.{publisher_for_writer_places};
-    ghost use Rattle.cwr_records.specs.Records.{publisher_for_writer_of, publisher_for_writer_contents};
-    ghost use Rattle.cwr_records.specs.ReadBack.{publisher_for_writer_read_back};
-    ghost use Rattle.cwr_records.specs.declared.record.Record.TheVariants as variant;
+    ghost use Rattle.cwr_records.specs.Kinds.{publisher_for_writer};
 
-    ghost places = { publisher_for_writer_places };
-
-    ghost of_line = { publisher_for_writer_of };
-
-    ghost contents = { publisher_for_writer_contents };
-
-    ghost as_record = { variant.PublisherForWriter };
+    ghost kind = { publisher_for_writer };
 
     fn positions() -> &'static [Position]
-        ensures { result.now ≡ positions_of publisher_for_writer_places }
+        ensures { result.now ≡ positions_of publisher_for_writer.places }
     {
         &PUBLISHER_FOR_WRITER
     }
 
-    ghost in_order = { refl };
-
-    ghost counted = { λ _. refl };
-
-    ghost read_back = { publisher_for_writer_read_back };
-}
-
-impl<'a> RecordKind<'a> for PublisherForWriter<'a> {
     fn from_fields(fields: &LineFields<'a>) -> PublisherForWriter<'a> {
         PublisherForWriter {
             transaction_sequence: fields.at(1),

@@ -1,10 +1,6 @@
 //! The collection shares of a publisher.
-use crate::field::Field;
-use crate::fixed::Fixed;
-use crate::kind::RecordKind;
-use crate::layout::{
-    Layout, LineFields, Position, RECORD_SEQUENCE, RECORD_TYPE, TRANSACTION_SEQUENCE,
-};
+use crate::layout::{RECORD_SEQUENCE, RECORD_TYPE, TRANSACTION_SEQUENCE};
+use crate::{Field, Fixed, LineFields, Position, RecordKind};
 
 /// SPT, the collection shares of a publisher in a territory, each five digits, in hundredths of a percent. The
 /// indicator is I (included) or E (excluded).
@@ -26,54 +22,29 @@ const PUBLISHER_TERRITORY: [Position; 11] = [
     RECORD_TYPE,
     TRANSACTION_SEQUENCE,
     RECORD_SEQUENCE,
-    // IP #
-    Position { from: 20, to: 28 },
-    // PR share
-    Position { from: 35, to: 39 },
-    // MR share
-    Position { from: 40, to: 44 },
-    // SR share
-    Position { from: 45, to: 49 },
-    // indicator
-    Position { from: 50, to: 50 },
-    // TIS code
-    Position { from: 51, to: 54 },
-    // shares change
-    Position { from: 55, to: 55 },
-    // sequence
-    Position { from: 56, to: 58 },
+    Position { from: 20, to: 28 }, // IP #
+    Position { from: 35, to: 39 }, // PR share
+    Position { from: 40, to: 44 }, // MR share
+    Position { from: 45, to: 49 }, // SR share
+    Position { from: 50, to: 50 }, // indicator
+    Position { from: 51, to: 54 }, // TIS code
+    Position { from: 55, to: 55 }, // shares change
+    Position { from: 56, to: 58 }, // sequence
 ];
 
-impl<'a> Layout for PublisherTerritory<'a> {
-    ghost use Rattle.std.specs.Prelude.{◌≡◌, refl};
+impl<'a> RecordKind<'a> for PublisherTerritory<'a> {
+    ghost use Rattle.std.specs.Prelude.{◌≡◌};
     ghost use Rattle.cwr_records.specs.Layouts.{positions_of};
-    ghost use Rattle.cwr_records.specs.Places.{publisher_territory_places};
-    ghost use Rattle.cwr_records.specs.Records.{publisher_territory_of, publisher_territory_contents};
-    ghost use Rattle.cwr_records.specs.ReadBack.{publisher_territory_read_back};
-    ghost use Rattle.cwr_records.specs.declared.record.Record.TheVariants as variant;
+    ghost use Rattle.cwr_records.specs.Kinds.{publisher_territory};
 
-    ghost places = { publisher_territory_places };
-
-    ghost of_line = { publisher_territory_of };
-
-    ghost contents = { publisher_territory_contents };
-
-    ghost as_record = { variant.PublisherTerritory };
+    ghost kind = { publisher_territory };
 
     fn positions() -> &'static [Position]
-        ensures { result.now ≡ positions_of publisher_territory_places }
+        ensures { result.now ≡ positions_of publisher_territory.places }
     {
         &PUBLISHER_TERRITORY
     }
 
-    ghost in_order = { refl };
-
-    ghost counted = { λ _. refl };
-
-    ghost read_back = { publisher_territory_read_back };
-}
-
-impl<'a> RecordKind<'a> for PublisherTerritory<'a> {
     fn from_fields(fields: &LineFields<'a>) -> PublisherTerritory<'a> {
         PublisherTerritory {
             transaction_sequence: fields.at(1),

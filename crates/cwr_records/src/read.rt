@@ -3,9 +3,7 @@ ghost use Rattle.std.specs.Prelude.{◌≡◌};
 ghost use Rattle.cwr_records.specs.Places.{record_type_in};
 ghost use Rattle.cwr_records.specs.Records.{record_of, type_of};
 
-use crate::kind::read_as;
-use crate::line::Line;
-use crate::record::{Record, RecordType};
+use crate::{Line, Record, RecordType, read_as};
 
 /// The record of a line, by the record type at 1-3. A line of a type that has no layout stays as it is.
 #[tactic(auto, unfolding(crate::specs::Records::record_of))]
@@ -15,13 +13,10 @@ pub fn read_record<'a>(line: Line<'a>) -> Record<'a>
     match record_type(&line) {
         RecordType::Hdr => Record::TransmissionHeader(read_as(&line)),
         RecordType::Grh => Record::GroupHeader(read_as(&line)),
-        RecordType::Nwr => Record::Work(read_as(&line)),
-        RecordType::Rev => Record::Work(read_as(&line)),
-        RecordType::Spu => Record::Publisher(read_as(&line)),
-        RecordType::Opu => Record::Publisher(read_as(&line)),
+        RecordType::Nwr | RecordType::Rev => Record::Work(read_as(&line)),
+        RecordType::Spu | RecordType::Opu => Record::Publisher(read_as(&line)),
         RecordType::Spt => Record::PublisherTerritory(read_as(&line)),
-        RecordType::Swr => Record::Writer(read_as(&line)),
-        RecordType::Owr => Record::Writer(read_as(&line)),
+        RecordType::Swr | RecordType::Owr => Record::Writer(read_as(&line)),
         RecordType::Swt => Record::WriterTerritory(read_as(&line)),
         RecordType::Pwr => Record::PublisherForWriter(read_as(&line)),
         RecordType::Alt => Record::AlternateTitle(read_as(&line)),

@@ -1,18 +1,9 @@
 //! Records of any type.
-use crate::acknowledgement::AcknowledgementRecord;
-use crate::alternate_title::AlternateTitle;
-use crate::group_header::GroupHeader;
-use crate::group_trailer::GroupTrailer;
-use crate::line::Line;
-use crate::publisher::PublisherRecord;
-use crate::publisher_for_writer::PublisherForWriter;
-use crate::publisher_territory::PublisherTerritory;
-use crate::recording::RecordingDetail;
-use crate::transmission_header::TransmissionHeader;
-use crate::transmission_trailer::TransmissionTrailer;
-use crate::work::WorkRecord;
-use crate::writer::WriterRecord;
-use crate::writer_territory::WriterTerritory;
+use crate::{
+    AcknowledgementRecord, AlternateTitle, GroupHeader, GroupTrailer, Line, PublisherForWriter,
+    PublisherRecord, PublisherTerritory, RecordingDetail, TransmissionHeader, TransmissionTrailer,
+    WorkRecord, WriterRecord, WriterTerritory,
+};
 
 /// The record types that have a layout, and `Unknown` for any other.
 #[derive(Clone, Copy, Debug, PartialEq, Eq)]

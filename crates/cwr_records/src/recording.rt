@@ -1,10 +1,6 @@
 //! A recording of a work.
-use crate::field::Field;
-use crate::fixed::Fixed;
-use crate::kind::RecordKind;
-use crate::layout::{
-    Layout, LineFields, Position, RECORD_SEQUENCE, RECORD_TYPE, TRANSACTION_SEQUENCE,
-};
+use crate::layout::{RECORD_SEQUENCE, RECORD_TYPE, TRANSACTION_SEQUENCE};
+use crate::{Field, Fixed, LineFields, Position, RecordKind};
 use work_ids::{IdFault, Isrc};
 
 /// REC, a recording of a work.
@@ -37,52 +33,28 @@ const RECORDING: [Position; 10] = [
     RECORD_TYPE,
     TRANSACTION_SEQUENCE,
     RECORD_SEQUENCE,
-    // release date
-    Position { from: 20, to: 27 },
-    // release duration
-    Position { from: 88, to: 93 },
-    // album title
-    Position { from: 99, to: 158 },
-    // label
-    Position { from: 159, to: 218 },
-    // catalogue number
-    Position { from: 219, to: 236 },
-    // EAN
-    Position { from: 237, to: 249 },
-    // ISRC
-    Position { from: 250, to: 261 },
+    Position { from: 20, to: 27 }, // release date
+    Position { from: 88, to: 93 }, // release duration
+    Position { from: 99, to: 158 }, // album title
+    Position { from: 159, to: 218 }, // label
+    Position { from: 219, to: 236 }, // catalogue number
+    Position { from: 237, to: 249 }, // EAN
+    Position { from: 250, to: 261 }, // ISRC
 ];
 
-impl<'a> Layout for RecordingDetail<'a> {
-    ghost use Rattle.std.specs.Prelude.{◌≡◌, refl};
+impl<'a> RecordKind<'a> for RecordingDetail<'a> {
+    ghost use Rattle.std.specs.Prelude.{◌≡◌};
     ghost use Rattle.cwr_records.specs.Layouts.{positions_of};
-    ghost use Rattle.cwr_records.specs.Places.{recording_places};
-    ghost use Rattle.cwr_records.specs.Records.{recording_of, recording_contents};
-    ghost use Rattle.cwr_records.specs.ReadBack.{recording_read_back};
-    ghost use Rattle.cwr_records.specs.declared.record.Record.TheVariants as variant;
+    ghost use Rattle.cwr_records.specs.Kinds.{recording};
 
-    ghost places = { recording_places };
-
-    ghost of_line = { recording_of };
-
-    ghost contents = { recording_contents };
-
-    ghost as_record = { variant.Recording };
+    ghost kind = { recording };
 
     fn positions() -> &'static [Position]
-        ensures { result.now ≡ positions_of recording_places }
+        ensures { result.now ≡ positions_of recording.places }
     {
         &RECORDING
     }
 
-    ghost in_order = { refl };
-
-    ghost counted = { λ _. refl };
-
-    ghost read_back = { recording_read_back };
-}
-
-impl<'a> RecordKind<'a> for RecordingDetail<'a> {
     fn from_fields(fields: &LineFields<'a>) -> RecordingDetail<'a> {
         RecordingDetail {
             transaction_sequence: fields.at(1),

@@ -1,9 +1,9 @@
 //! Shares.
-use crate::field::Field;
+use crate::Field;
 use std::marker::Model;
 
-/// The share that is all of a right, in hundredths of a percent.
-const WHOLE: u64 = 10_000;
+/// The share that is all of a right, in hundredths of a percent (profile).
+pub const WHOLE: u64 = 10_000;
 
 /// A share of a right in a work, in hundredths of a percent, 0 to 10000.
 #[derive(Clone, Copy, Debug, PartialEq, Eq, PartialOrd, Ord)]

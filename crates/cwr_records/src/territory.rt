@@ -1,5 +1,5 @@
 //! Territories.
-use crate::field::Field;
+use crate::Field;
 use std::marker::Model;
 use work_ids::number;
 
@@ -31,7 +31,7 @@ impl TisCode {
         requires { length field.now ≡ 4 }
         ensures { result ≡ territory_of field.now }
     {
-        let value = number(field.trimmed())?;
+        let value = number(field.trim())?;
         Some(TisCode {
             value: value as u16,
         })

@@ -1,8 +1,6 @@
 //! The header of a transmission.
-use crate::field::Field;
-use crate::fixed::Fixed;
-use crate::kind::RecordKind;
-use crate::layout::{Layout, LineFields, Position, RECORD_TYPE};
+use crate::layout::RECORD_TYPE;
+use crate::{Field, Fixed, LineFields, Position, RecordKind};
 
 /// HDR, the header of a transmission. Its dates are YYYYMMDD, its time is HHMMSS.
 #[derive(Drop)]
@@ -19,54 +17,29 @@ pub struct TransmissionHeader<'a> {
 
 const HEADER: [Position; 9] = [
     RECORD_TYPE,
-    // sender type
-    Position { from: 4, to: 5 },
-    // sender ID
-    Position { from: 6, to: 14 },
-    // sender name
-    Position { from: 15, to: 59 },
-    // EDI version
-    Position { from: 60, to: 64 },
-    // creation date
-    Position { from: 65, to: 72 },
-    // creation time
-    Position { from: 73, to: 78 },
-    // transmission date
-    Position { from: 79, to: 86 },
-    // character set
-    Position { from: 87, to: 101 },
+    Position { from: 4, to: 5 }, // sender type
+    Position { from: 6, to: 14 }, // sender ID
+    Position { from: 15, to: 59 }, // sender name
+    Position { from: 60, to: 64 }, // EDI version
+    Position { from: 65, to: 72 }, // creation date
+    Position { from: 73, to: 78 }, // creation time
+    Position { from: 79, to: 86 }, // transmission date
+    Position { from: 87, to: 101 }, // character set
 ];
 
-impl<'a> Layout for TransmissionHeader<'a> {
-    ghost use Rattle.std.specs.Prelude.{◌≡◌, refl};
+impl<'a> RecordKind<'a> for TransmissionHeader<'a> {
+    ghost use Rattle.std.specs.Prelude.{◌≡◌};
     ghost use Rattle.cwr_records.specs.Layouts.{positions_of};
-    ghost use Rattle.cwr_records.specs.Places.{header_places};
-    ghost use Rattle.cwr_records.specs.Records.{header_of, header_contents};
-    ghost use Rattle.cwr_records.specs.ReadBack.{header_read_back};
-    ghost use Rattle.cwr_records.specs.declared.record.Record.TheVariants as variant;
+    ghost use Rattle.cwr_records.specs.Kinds.{header};
 
-    ghost places = { header_places };
-
-    ghost of_line = { header_of };
-
-    ghost contents = { header_contents };
-
-    ghost as_record = { variant.TransmissionHeader };
+    ghost kind = { header };
 
     fn positions() -> &'static [Position]
-        ensures { result.now ≡ positions_of header_places }
+        ensures { result.now ≡ positions_of header.places }
     {
         &HEADER
     }
 
-    ghost in_order = { refl };
-
-    ghost counted = { λ _. refl };
-
-    ghost read_back = { header_read_back };
-}
-
-impl<'a> RecordKind<'a> for TransmissionHeader<'a> {
     fn from_fields(fields: &LineFields<'a>) -> TransmissionHeader<'a> {
         TransmissionHeader {
             sender_type: fields.at(1),

@@ -1,8 +1,6 @@
 //! The trailer of a transmission.
-use crate::field::Field;
-use crate::fixed::Fixed;
-use crate::kind::RecordKind;
-use crate::layout::{Layout, LineFields, Position, RECORD_TYPE};
+use crate::layout::RECORD_TYPE;
+use crate::{Field, Fixed, LineFields, Position, RecordKind};
 
 /// TRL, the trailer of a transmission, with its counts.
 #[derive(Drop)]
@@ -14,44 +12,24 @@ pub struct TransmissionTrailer<'a> {
 
 const TRAILER: [Position; 4] = [
     RECORD_TYPE,
-    // group count
-    Position { from: 4, to: 8 },
-    // transaction count
-    Position { from: 9, to: 16 },
-    // record count
-    Position { from: 17, to: 24 },
+    Position { from: 4, to: 8 }, // group count
+    Position { from: 9, to: 16 }, // transaction count
+    Position { from: 17, to: 24 }, // record count
 ];
 
-impl<'a> Layout for TransmissionTrailer<'a> {
-    ghost use Rattle.std.specs.Prelude.{◌≡◌, refl};
+impl<'a> RecordKind<'a> for TransmissionTrailer<'a> {
+    ghost use Rattle.std.specs.Prelude.{◌≡◌};
     ghost use Rattle.cwr_records.specs.Layouts.{positions_of};
-    ghost use Rattle.cwr_records.specs.Places.{trailer_places};
-    ghost use Rattle.cwr_records.specs.Records.{trailer_of, trailer_contents};
-    ghost use Rattle.cwr_records.specs.ReadBack.{trailer_read_back};
-    ghost use Rattle.cwr_records.specs.declared.record.Record.TheVariants as variant;
+    ghost use Rattle.cwr_records.specs.Kinds.{trailer};
 
-    ghost places = { trailer_places };
-
-    ghost of_line = { trailer_of };
-
-    ghost contents = { trailer_contents };
-
-    ghost as_record = { variant.TransmissionTrailer };
+    ghost kind = { trailer };
 
     fn positions() -> &'static [Position]
-        ensures { result.now ≡ positions_of trailer_places }
+        ensures { result.now ≡ positions_of trailer.places }
     {
         &TRAILER
     }
 
-    ghost in_order = { refl };
-
-    ghost counted = { λ _. refl };
-
-    ghost read_back = { trailer_read_back };
-}
-
-impl<'a> RecordKind<'a> for TransmissionTrailer<'a> {
     fn from_fields(fields: &LineFields<'a>) -> TransmissionTrailer<'a> {
         TransmissionTrailer {
             group_count: fields.at(1),

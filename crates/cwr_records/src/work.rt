@@ -1,10 +1,6 @@
 //! The record that begins a transaction: a work.
-use crate::field::Field;
-use crate::fixed::Fixed;
-use crate::kind::RecordKind;
-use crate::layout::{
-    Layout, LineFields, Position, RECORD_SEQUENCE, RECORD_TYPE, TRANSACTION_SEQUENCE,
-};
+use crate::layout::{RECORD_SEQUENCE, RECORD_TYPE, TRANSACTION_SEQUENCE};
+use crate::{Field, Fixed, LineFields, Position, RecordKind};
 use work_ids::{IdFault, Iswc, WorkNumber};
 
 /// Whether a transaction registers a work or revises it.
@@ -89,62 +85,33 @@ const WORK: [Position; 15] = [
     RECORD_TYPE,
     TRANSACTION_SEQUENCE,
     RECORD_SEQUENCE,
-    // title
-    Position { from: 20, to: 79 },
-    // language
-    Position { from: 80, to: 81 },
-    // submitter work number
-    Position { from: 82, to: 95 },
-    // ISWC
-    Position { from: 96, to: 106 },
-    // copyright date
-    Position { from: 107, to: 114 },
-    // copyright number
-    Position { from: 115, to: 126 },
-    // distribution category
-    Position { from: 127, to: 129 },
-    // duration
-    Position { from: 130, to: 135 },
-    // recorded indicator
-    Position { from: 136, to: 136 },
-    // text music relationship
-    Position { from: 137, to: 139 },
-    // composite type
-    Position { from: 140, to: 142 },
-    // version type
-    Position { from: 143, to: 145 },
+    Position { from: 20, to: 79 }, // title
+    Position { from: 80, to: 81 }, // language
+    Position { from: 82, to: 95 }, // submitter work number
+    Position { from: 96, to: 106 }, // ISWC
+    Position { from: 107, to: 114 }, // copyright date
+    Position { from: 115, to: 126 }, // copyright number
+    Position { from: 127, to: 129 }, // distribution category
+    Position { from: 130, to: 135 }, // duration
+    Position { from: 136, to: 136 }, // recorded indicator
+    Position { from: 137, to: 139 }, // text music relationship
+    Position { from: 140, to: 142 }, // composite type
+    Position { from: 143, to: 145 }, // version type
 ];
 
-impl<'a> Layout for WorkRecord<'a> {
-    ghost use Rattle.std.specs.Prelude.{◌≡◌, refl};
+impl<'a> RecordKind<'a> for WorkRecord<'a> {
+    ghost use Rattle.std.specs.Prelude.{◌≡◌};
     ghost use Rattle.cwr_records.specs.Layouts.{positions_of};
-    ghost use Rattle.cwr_records.specs.Places.{work_places};
-    ghost use Rattle.cwr_records.specs.Records.{work_of, work_contents};
-    ghost use Rattle.cwr_records.specs.ReadBack.{work_read_back};
-    ghost use Rattle.cwr_records.specs.declared.record.Record.TheVariants as variant;
+    ghost use Rattle.cwr_records.specs.Kinds.{work};
 
-    ghost places = { work_places };
-
-    ghost of_line = { work_of };
-
-    ghost contents = { work_contents };
-
-    ghost as_record = { variant.Work };
+    ghost kind = { work };
 
     fn positions() -> &'static [Position]
-        ensures { result.now ≡ positions_of work_places }
+        ensures { result.now ≡ positions_of work.places }
     {
         &WORK
     }
 
-    ghost in_order = { refl };
-
-    ghost counted = { λ _. refl };
-
-    ghost read_back = { work_read_back };
-}
-
-impl<'a> RecordKind<'a> for WorkRecord<'a> {
     fn from_fields(fields: &LineFields<'a>) -> WorkRecord<'a> {
         WorkRecord {
             kind: TransactionKind::of(&fields.at(0)),

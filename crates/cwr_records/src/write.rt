@@ -3,18 +3,17 @@ ghost use Rattle.std.specs.Prelude.{◌≡◌, ◌++◌, length, map, take, repl
 ghost use Rattle.cwr_records.specs.Layouts.{row, ended, is_one_line, width_of, positions_of};
 ghost use Rattle.cwr_records.specs.Records.{IsReadBack};
 
-use crate::field::Field;
-use crate::kind::RecordKind;
+use crate::{Field, RecordKind};
 use std::alloc::AllocError;
 
 /// Appends the record's line, each field at its place and blanks in the gaps, up to the layout's last position, and
 /// CR LF. Where memory is refused, `out` is as it was.
 pub fn write_record<'a, K: RecordKind<'a>>(source: &K, out: &mut Vec<u8>) -> Result<(), AllocError>
-    ensures ok { OnOk result (out.new.items ≡ out.old.items ++ ended (row K.places (K.contents source.now))) }
+    ensures ok { OnOk result (out.new.items ≡ out.old.items ++ ended (row K.kind.places (K.kind.contents source.now))) }
     ensures err { OnErr result (out.new.items ≡ out.old.items) }
 
     // What is written is one line, and is read as the same record again.
-    ensures read_back { OnOk result (IsTrue (is_one_line (K.contents source.now)) → IsReadBack (row K.places (K.contents source.now)) (K.as_record source.now)) }
+    ensures read_back { OnOk result (IsTrue (is_one_line (K.kind.contents source.now)) → IsReadBack (row K.kind.places (K.kind.contents source.now)) (K.kind.as_record source.now)) }
 {
     let start = out.len();
     let written = append_record(source, out);
@@ -26,9 +25,9 @@ pub fn write_record<'a, K: RecordKind<'a>>(source: &K, out: &mut Vec<u8>) -> Res
 
 // Appends the record's line and CR LF; where memory is refused, perhaps a part of them.
 fn append_record<'a, K: RecordKind<'a>>(source: &K, out: &mut Vec<u8>) -> Result<(), AllocError>
-    ensures ok { OnOk result (out.new.items ≡ out.old.items ++ ended (row K.places (K.contents source.now))) }
+    ensures ok { OnOk result (out.new.items ≡ out.old.items ++ ended (row K.kind.places (K.kind.contents source.now))) }
     ensures err { OnErr result (take (length out.old.items) out.new.items ≡ out.old.items) }
-    ensures widths { OnOk result (map length (K.contents source.now) ≡ map width_of (positions_of K.places)) }
+    ensures widths { OnOk result (map length (K.kind.contents source.now) ≡ map width_of (positions_of K.kind.places)) }
 {
     let mut behind = 0;
     let positions = K::positions();

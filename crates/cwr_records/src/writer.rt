@@ -1,10 +1,6 @@
 //! Writers.
-use crate::field::Field;
-use crate::fixed::Fixed;
-use crate::kind::RecordKind;
-use crate::layout::{
-    Layout, LineFields, Position, RECORD_SEQUENCE, RECORD_TYPE, TRANSACTION_SEQUENCE,
-};
+use crate::layout::{RECORD_SEQUENCE, RECORD_TYPE, TRANSACTION_SEQUENCE};
+use crate::{Field, Fixed, LineFields, Position, RecordKind};
 
 /// Whether a writer is controlled by the submitter.
 #[derive(Clone, Copy, Debug, PartialEq, Eq)]
@@ -67,64 +63,34 @@ const WRITER: [Position; 16] = [
     RECORD_TYPE,
     TRANSACTION_SEQUENCE,
     RECORD_SEQUENCE,
-    // IP #
-    Position { from: 20, to: 28 },
-    // last name
-    Position { from: 29, to: 73 },
-    // first name
-    Position { from: 74, to: 103 },
-    // unknown indicator
-    Position { from: 104, to: 104 },
-    // designation
-    Position { from: 105, to: 106 },
-    // tax ID
-    Position { from: 107, to: 115 },
-    // IPI name number
-    Position { from: 116, to: 126 },
-    // PR society
-    Position { from: 127, to: 129 },
-    // PR share
-    Position { from: 130, to: 134 },
-    // MR society
-    Position { from: 135, to: 137 },
-    // MR share
-    Position { from: 138, to: 142 },
-    // SR society
-    Position { from: 143, to: 145 },
-    // SR share
-    Position { from: 146, to: 150 },
+    Position { from: 20, to: 28 }, // IP #
+    Position { from: 29, to: 73 }, // last name
+    Position { from: 74, to: 103 }, // first name
+    Position { from: 104, to: 104 }, // unknown indicator
+    Position { from: 105, to: 106 }, // designation
+    Position { from: 107, to: 115 }, // tax ID
+    Position { from: 116, to: 126 }, // IPI name number
+    Position { from: 127, to: 129 }, // PR society
+    Position { from: 130, to: 134 }, // PR share
+    Position { from: 135, to: 137 }, // MR society
+    Position { from: 138, to: 142 }, // MR share
+    Position { from: 143, to: 145 }, // SR society
+    Position { from: 146, to: 150 }, // SR share
 ];
 
-impl<'a> Layout for WriterRecord<'a> {
-    ghost use Rattle.std.specs.Prelude.{◌≡◌, refl};
+impl<'a> RecordKind<'a> for WriterRecord<'a> {
+    ghost use Rattle.std.specs.Prelude.{◌≡◌};
     ghost use Rattle.cwr_records.specs.Layouts.{positions_of};
-    ghost use Rattle.cwr_records.specs.Places.{writer_places};
-    ghost use Rattle.cwr_records.specs.Records.{writer_of, writer_contents};
-    ghost use Rattle.cwr_records.specs.ReadBack.{writer_read_back};
-    ghost use Rattle.cwr_records.specs.declared.record.Record.TheVariants as variant;
+    ghost use Rattle.cwr_records.specs.Kinds.{writer};
 
-    ghost places = { writer_places };
-
-    ghost of_line = { writer_of };
-
-    ghost contents = { writer_contents };
-
-    ghost as_record = { variant.Writer };
+    ghost kind = { writer };
 
     fn positions() -> &'static [Position]
-        ensures { result.now ≡ positions_of writer_places }
+        ensures { result.now ≡ positions_of writer.places }
     {
         &WRITER
     }
 
-    ghost in_order = { refl };
-
-    ghost counted = { λ _. refl };
-
-    ghost read_back = { writer_read_back };
-}
-
-impl<'a> RecordKind<'a> for WriterRecord<'a> {
     fn from_fields(fields: &LineFields<'a>) -> WriterRecord<'a> {
         WriterRecord {
             role: WriterRole::of(&fields.at(0)),

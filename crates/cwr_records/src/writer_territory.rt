@@ -1,10 +1,6 @@
 //! The collection shares of a writer.
-use crate::field::Field;
-use crate::fixed::Fixed;
-use crate::kind::RecordKind;
-use crate::layout::{
-    Layout, LineFields, Position, RECORD_SEQUENCE, RECORD_TYPE, TRANSACTION_SEQUENCE,
-};
+use crate::layout::{RECORD_SEQUENCE, RECORD_TYPE, TRANSACTION_SEQUENCE};
+use crate::{Field, Fixed, LineFields, Position, RecordKind};
 
 /// SWT, the collection shares of a writer in a territory, each five digits, in hundredths of a percent. The indicator is I
 /// (included) or E (excluded).
@@ -26,54 +22,29 @@ const WRITER_TERRITORY: [Position; 11] = [
     RECORD_TYPE,
     TRANSACTION_SEQUENCE,
     RECORD_SEQUENCE,
-    // IP #
-    Position { from: 20, to: 28 },
-    // PR share
-    Position { from: 29, to: 33 },
-    // MR share
-    Position { from: 34, to: 38 },
-    // SR share
-    Position { from: 39, to: 43 },
-    // indicator
-    Position { from: 44, to: 44 },
-    // TIS code
-    Position { from: 45, to: 48 },
-    // shares change
-    Position { from: 49, to: 49 },
-    // sequence
-    Position { from: 50, to: 52 },
+    Position { from: 20, to: 28 }, // IP #
+    Position { from: 29, to: 33 }, // PR share
+    Position { from: 34, to: 38 }, // MR share
+    Position { from: 39, to: 43 }, // SR share
+    Position { from: 44, to: 44 }, // indicator
+    Position { from: 45, to: 48 }, // TIS code
+    Position { from: 49, to: 49 }, // shares change
+    Position { from: 50, to: 52 }, // sequence
 ];
 
-impl<'a> Layout for WriterTerritory<'a> {
-    ghost use Rattle.std.specs.Prelude.{◌≡◌, refl};
+impl<'a> RecordKind<'a> for WriterTerritory<'a> {
+    ghost use Rattle.std.specs.Prelude.{◌≡◌};
     ghost use Rattle.cwr_records.specs.Layouts.{positions_of};
-    ghost use Rattle.cwr_records.specs.Places.{writer_territory_places};
-    ghost use Rattle.cwr_records.specs.Records.{writer_territory_of, writer_territory_contents};
-    ghost use Rattle.cwr_records.specs.ReadBack.{writer_territory_read_back};
-    ghost use Rattle.cwr_records.specs.declared.record.Record.TheVariants as variant;
+    ghost use Rattle.cwr_records.specs.Kinds.{writer_territory};
 
-    ghost places = { writer_territory_places };
-
-    ghost of_line = { writer_territory_of };
-
-    ghost contents = { writer_territory_contents };
-
-    ghost as_record = { variant.WriterTerritory };
+    ghost kind = { writer_territory };
 
     fn positions() -> &'static [Position]
-        ensures { result.now ≡ positions_of writer_territory_places }
+        ensures { result.now ≡ positions_of writer_territory.places }
     {
         &WRITER_TERRITORY
     }
 
-    ghost in_order = { refl };
-
-    ghost counted = { λ _. refl };
-
-    ghost read_back = { writer_territory_read_back };
-}
-
-impl<'a> RecordKind<'a> for WriterTerritory<'a> {
     fn from_fields(fields: &LineFields<'a>) -> WriterTerritory<'a> {
         WriterTerritory {
             transaction_sequence: fields.at(1),

@@ -75,7 +75,7 @@ fn answer_next<S: Store>(
         (Wanted.Whole wanted) }
     ensures step { IsAnswered S.state desk.old desk.new (unread room.old.input) head.now
         (told_reply result) }
-    ensures told { IsReadyToSend result }
+    ensures answered { IsReadyToSend result }
     ensures taken { unread room.new.input
         ≡ drop (head.now.length + head.now.body) (unread room.old.input) }
     ensures turns { room.new.input.turns ≡ room.old.input.turns }
@@ -103,11 +103,11 @@ fn answer_whole<S: Store, R: Read>(
         (Wanted.Whole wanted) }
     ensures comes { ComesNext S.state R.remaining desk.old desk.new reader.old reader.new
         room.old.input room.new.input result }
-    ensures told { IfOk result IsReadyNext }
+    ensures answered { IfOk result IsReadyNext }
     ensures met { IfOk result (λ next. MeetsEnd (is_end next) (empty_reads_of reader.old) (empty_reads_of reader.new)) }
     ensures unmet { OnErr result (empty_reads_of reader.new ≡ empty_reads_of reader.old) }
     ensures kept { OnOk result (failures_of reader.new ≡ failures_of reader.old) }
-    ensures fault { IfErr result (λ kind.
+    ensures err { IfErr result (λ kind.
         FailsBy kind room.new.input.turns (failures_of reader.old) (failures_of reader.new)) }
     ensures outbox { room.new.outbox ≡ room.old.outbox }
     ensures ready { IsReady room.new }
@@ -140,11 +140,11 @@ fn answer_fed<S: Store, R: Read>(
         (Wanted.Fed key) }
     ensures comes { ComesNext S.state R.remaining desk.old desk.new reader.old reader.new
         room.old.input room.new.input result }
-    ensures told { IfOk result IsReadyNext }
+    ensures answered { IfOk result IsReadyNext }
     ensures met { IfOk result (λ next. MeetsEnd (is_end next) (empty_reads_of reader.old) (empty_reads_of reader.new)) }
     ensures unmet { OnErr result (empty_reads_of reader.new ≡ empty_reads_of reader.old) }
     ensures kept { OnOk result (failures_of reader.new ≡ failures_of reader.old) }
-    ensures fault { IfErr result (λ kind.
+    ensures err { IfErr result (λ kind.
         FailsBy kind room.new.input.turns (failures_of reader.old) (failures_of reader.new)) }
     ensures outbox { room.new.outbox ≡ room.old.outbox }
     ensures ready { IsReady room.new }
@@ -190,11 +190,11 @@ fn answer_head<S: Store, R: Read>(
     requires head { HasHead (unread room.old.input) head }
     ensures comes { ComesNext S.state R.remaining desk.old desk.new reader.old reader.new
         room.old.input room.new.input result }
-    ensures told { IfOk result IsReadyNext }
+    ensures answered { IfOk result IsReadyNext }
     ensures met { IfOk result (λ next. MeetsEnd (is_end next) (empty_reads_of reader.old) (empty_reads_of reader.new)) }
     ensures unmet { OnErr result (empty_reads_of reader.new ≡ empty_reads_of reader.old) }
     ensures kept { OnOk result (failures_of reader.new ≡ failures_of reader.old) }
-    ensures fault { IfErr result (λ kind.
+    ensures err { IfErr result (λ kind.
         FailsBy kind room.new.input.turns (failures_of reader.old) (failures_of reader.new)) }
     ensures outbox { room.new.outbox ≡ room.old.outbox }
     ensures ready { IsReady room.new }
@@ -221,7 +221,7 @@ pub(crate) fn answer_upcoming<S: Store, R: Read, W: Write>(
     ensures stops { IfErr result (IsLeftIn S.state R.remaining W.contents desk.old desk.new reader.old reader.new
         writer.old writer.new room.old room.new) }
     ensures sends { OnOk result (SendsTo W.contents writer.old writer.new room.old.outbox room.new.outbox) }
-    ensures told { IfOk result IsReadyNext }
+    ensures answered { IfOk result IsReadyNext }
     ensures met { IfOk result (λ next. MeetsEnd (is_end next) (empty_reads_of reader.old) (empty_reads_of reader.new)) }
     ensures unmet { OnErr result (empty_reads_of reader.new ≡ empty_reads_of reader.old) }
     ensures kept { OnOk result (failures_of reader.new ≡ failures_of reader.old) }

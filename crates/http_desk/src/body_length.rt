@@ -1,8 +1,6 @@
 //! What the fields of a head say of its body and of the connection.
-ghost use Rattle.std.specs.Prelude.{◌≡◌, ◌≤◌, ◌+◌, ◌==◌, ◌∷◌, [], length, map, min, All, IsTrue};
-ghost use Rattle.std.specs.List.{list_all};
+ghost use Rattle.std.specs.Prelude.{◌≡◌, ◌==◌, ◌∷◌, [], length, map, All};
 ghost use Rattle.std.specs.Str.{str_eq_ignore_ascii_case};
-ghost use Rattle.std.specs.Str.Parse.{digits_value};
 ghost use Rattle.httparse.specs.Spans.{IsHeaderWithin, header_bytes};
 ghost use Rattle.http_desk.specs.Fields.{FindsValues};
 ghost use Rattle.http_text.specs.BodyLength.{is_field_named, field_values, body_length_by, body_length_of, ends_connection, says_close, is_put};

@@ -39,7 +39,7 @@ fn send<W: Write>(
     ensures gathers { PutsText W.contents result writer.old writer.new room.old.outbox room.new.outbox
         (told_text told.now close) }
     ensures kept { OnOk result (failures_of writer.new ≡ failures_of writer.old) }
-    ensures failed { OnErr result (Rises (failures_of writer.old) (failures_of writer.new)) }
+    ensures err { OnErr result (Rises (failures_of writer.old) (failures_of writer.new)) }
     ensures input { room.new.input ≡ room.old.input }
     ensures ready { IsReady room.new }
 {
@@ -56,7 +56,7 @@ fn close_with<W: Write>(
     ensures served { IfOk result (ClosesBy W.contents writer.old writer.new requests
         (waiting outbox.old ++ ending end)) }
     ensures kept { OnOk result (failures_of writer.new ≡ failures_of writer.old) }
-    ensures fault { IfErr result (FailsToClose W.contents writer.old writer.new requests
+    ensures err { IfErr result (FailsToClose W.contents writer.old writer.new requests
         (waiting outbox.old ++ ending end)) }
 {
     match write_end(writer, outbox, end) {
@@ -88,7 +88,7 @@ pub fn serve<S: Store, R: Read, W: Write>(
     ensures served { IfOk result
         (IsServed S.state R.remaining W.contents desk.old desk.new reader.old writer.old writer.new) }
     // Up to a fault: what was read begins with the requests that were answered; and the fault's cause.
-    ensures fault { IfErr result (IsGivenUp S.state R.remaining W.contents
+    ensures err { IfErr result (IsGivenUp S.state R.remaining W.contents
         desk.old desk.new reader.old reader.new writer.old writer.new turns) }
     ensures memory { IfErr result (λ fault. fault.kind ≡ FaultKind.Memory → desk.new ≡ desk.old) }
 
@@ -121,7 +121,7 @@ fn serve_in<S: Store, R: Read, W: Write>(
     ensures kept { OnOk result (NeitherFails reader.old reader.new writer.old writer.new) }
     ensures served { IfOk result
         (IsServed S.state R.remaining W.contents desk.old desk.new reader.old writer.old writer.new) }
-    ensures fault { IfErr result (IsGivenUp S.state R.remaining W.contents
+    ensures err { IfErr result (IsGivenUp S.state R.remaining W.contents
         desk.old desk.new reader.old reader.new writer.old writer.new room.old.input.turns) }
     ensures memory { IfErr result (λ fault. fault.kind ≢ FaultKind.Memory) }
     ensures turns { KeepsTurns R.remaining reader.old reader.new room.old.input.turns }

@@ -59,7 +59,7 @@ impl<R: Read> Counted<R> {
         ensures bound { ReadsAtMost result buffer.new }
         ensures bytes { ReadConsumes (R.remaining (inner_of self.old)) (R.remaining (inner_of self.new)) result buffer.new }
         ensures kept { OnOk result (failures_of self.new ≡ failures_of self.old) }
-        ensures failed { OnErr result (Rises (failures_of self.old) (failures_of self.new)) }
+        ensures err { OnErr result (Rises (failures_of self.old) (failures_of self.new)) }
         ensures counted { IfOk result (λ count. reads_of self.new ≡ reads_after count (reads_of self.old)) }
         ensures uncounted { OnErr result (reads_of self.new ≡ reads_of self.old) }
         ensures ended { IfOk result (λ count. empty_reads_of self.new ≡ ends_after count (empty_reads_of self.old)) }
@@ -84,7 +84,7 @@ impl<W: Write> Counted<W> {
     pub fn write_all(&mut self, bytes: &[u8]) -> Result<(), NotWritten>
         ensures wrote { WritesBytes result (W.contents (inner_of self.old)) (W.contents (inner_of self.new)) bytes.now }
         ensures kept { OnOk result (failures_of self.new ≡ failures_of self.old) }
-        ensures failed { OnErr result (Rises (failures_of self.old) (failures_of self.new)) }
+        ensures err { OnErr result (Rises (failures_of self.old) (failures_of self.new)) }
         ensures uncounted { reads_of self.new ≡ reads_of self.old }
     {
         let mut rest = bytes;

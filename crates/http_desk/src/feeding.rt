@@ -1,5 +1,5 @@
 //! A body is fed to its reader while it comes.
-ghost use Rattle.std.specs.Prelude.{◌≡◌, ◌≤◌, ◌++◌, [], ℕ, List, IfOk, IfErr, OnOk, OnErr, length, take, drop, min};
+ghost use Rattle.std.specs.Prelude.{◌≡◌, ◌++◌, [], ℕ, List, IfOk, IfErr, OnOk, OnErr, length, take, drop, min};
 ghost use Rattle.cwr_files.specs.Fed.{WasFed};
 ghost use Rattle.http_desk.specs.Counted.{empty_reads_of, failures_of, MeetsEnd};
 ghost use Rattle.http_desk.specs.Feeding.{FeedsRequest, is_cut};
@@ -72,7 +72,7 @@ pub(crate) fn feed_request<R: Read>(
     ensures met { IfOk result (λ feeding. MeetsEnd (is_cut feeding) (empty_reads_of reader.old) (empty_reads_of reader.new)) }
     ensures unmet { OnErr result (empty_reads_of reader.new ≡ empty_reads_of reader.old) }
     ensures kept { OnOk result (failures_of reader.new ≡ failures_of reader.old) }
-    ensures fault { IfErr result (λ kind.
+    ensures err { IfErr result (λ kind.
         FailsBy kind input.new.turns (failures_of reader.old) (failures_of reader.new)) }
 {
     input.take(head.length);

@@ -112,7 +112,7 @@ impl Input {
         ensures met { IfOk result (λ gave. MeetsEnd (not gave) (empty_reads_of reader.old) (empty_reads_of reader.new)) }
         ensures unmet { OnErr result (empty_reads_of reader.new ≡ empty_reads_of reader.old) }
         ensures kept { OnOk result (failures_of reader.new ≡ failures_of reader.old) }
-        ensures fault { IfErr result (λ kind.
+        ensures err { IfErr result (λ kind.
             FailsBy kind self.new.turns (failures_of reader.old) (failures_of reader.new)) }
     {
         if !self.unread().is_empty() {
@@ -134,7 +134,7 @@ impl Input {
         ensures met { IfOk result (λ gave. MeetsEnd (not gave) (empty_reads_of reader.old) (empty_reads_of reader.new)) }
         ensures unmet { OnErr result (empty_reads_of reader.new ≡ empty_reads_of reader.old) }
         ensures kept { OnOk result (failures_of reader.new ≡ failures_of reader.old) }
-        ensures fault { IfErr result (λ kind.
+        ensures err { IfErr result (λ kind.
             FailsBy kind self.new.turns (failures_of reader.old) (failures_of reader.new)) }
     {
         if self.turns == 0 {

@@ -42,7 +42,7 @@ impl Outbox {
         ensures wrote { Emits W.contents result writer.old writer.new (waiting self.old) }
         ensures empty { OnOk result (waiting self.new ≡ []) }
         ensures kept { OnOk result (failures_of writer.new ≡ failures_of writer.old) }
-        ensures failed { OnErr result (Rises (failures_of writer.old) (failures_of writer.new)) }
+        ensures err { OnErr result (Rises (failures_of writer.old) (failures_of writer.new)) }
     {
         let Ok(()) = writer.write_all(&self.bytes) else {
             return Err(NotWritten);
@@ -56,7 +56,7 @@ impl Outbox {
         ensures gathers { PutsText W.contents result writer.old writer.new self.old self.new [] }
         ensures room { OnOk result (vec_len self.new.bytes ≤ 65536) }
         ensures kept { OnOk result (failures_of writer.new ≡ failures_of writer.old) }
-        ensures failed { OnErr result (Rises (failures_of writer.old) (failures_of writer.new)) }
+        ensures err { OnErr result (Rises (failures_of writer.old) (failures_of writer.new)) }
     {
         if self.bytes.len() <= FULL {
             return Ok(());
@@ -77,7 +77,7 @@ impl Outbox {
         ensures gathers { PutsText W.contents result writer.old writer.new self.old self.new
             (answer_text status content_type body.now close) }
         ensures kept { OnOk result (failures_of writer.new ≡ failures_of writer.old) }
-        ensures failed { OnErr result (Rises (failures_of writer.old) (failures_of writer.new)) }
+        ensures err { OnErr result (Rises (failures_of writer.old) (failures_of writer.new)) }
     {
         let Ok(()) = self.flush_if_full(writer) else {
             return Err(NotWritten);

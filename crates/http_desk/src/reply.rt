@@ -89,7 +89,7 @@ fn put_refusal<W: Write>(
     ensures gathers { PutsText W.contents result writer.old writer.new outbox.old outbox.new
         (refused_text refusal.now close) }
     ensures kept { OnOk result (failures_of writer.new ≡ failures_of writer.old) }
-    ensures failed { OnErr result (Rises (failures_of writer.old) (failures_of writer.new)) }
+    ensures err { OnErr result (Rises (failures_of writer.old) (failures_of writer.new)) }
 {
     body.set_refusal(refusal);
     let status = refusal_status(refusal);
@@ -108,7 +108,7 @@ pub(crate) fn put_reply<W: Write>(
     ensures gathers { PutsText W.contents result writer.old writer.new outbox.old outbox.new
         (told_text told.now close) }
     ensures kept { OnOk result (failures_of writer.new ≡ failures_of writer.old) }
-    ensures failed { OnErr result (Rises (failures_of writer.old) (failures_of writer.new)) }
+    ensures err { OnErr result (Rises (failures_of writer.old) (failures_of writer.new)) }
 {
     match &told.answer {
         Answer::Arrived(arrival) => {
@@ -147,7 +147,7 @@ fn put_end<W: Write>(
 ) -> Result<(), NotWritten>
     ensures gathers { PutsText W.contents result writer.old writer.new outbox.old outbox.new (ending end) }
     ensures kept { OnOk result (failures_of writer.new ≡ failures_of writer.old) }
-    ensures failed { OnErr result (Rises (failures_of writer.old) (failures_of writer.new)) }
+    ensures err { OnErr result (Rises (failures_of writer.old) (failures_of writer.new)) }
 {
     match end {
         End::Quiet | End::Closed => Ok(()),
@@ -174,7 +174,7 @@ pub(crate) fn write_end<W: Write>(
 ) -> Result<(), NotWritten>
     ensures wrote { Emits W.contents result writer.old writer.new (waiting outbox.old ++ ending end) }
     ensures kept { OnOk result (failures_of writer.new ≡ failures_of writer.old) }
-    ensures failed { OnErr result (Rises (failures_of writer.old) (failures_of writer.new)) }
+    ensures err { OnErr result (Rises (failures_of writer.old) (failures_of writer.new)) }
 {
     let Ok(()) = put_end(writer, outbox, end) else {
         return Err(NotWritten);

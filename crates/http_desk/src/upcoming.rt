@@ -25,7 +25,7 @@ pub(crate) enum Upcoming {
 }
 
 // What stands at the front, where no more bytes are needed to tell it.
-fn settled(bytes: &[u8]) -> Option<Upcoming>
+fn upcoming_in(bytes: &[u8]) -> Option<Upcoming>
     ensures { IfSome result (λ next. (society : ℕ) (known : Option (List ℕ)) → IsUpcoming society next bytes.now known) }
 {
     match read_head(bytes) {
@@ -62,7 +62,7 @@ pub(crate) fn next_answered<R: Read, W: Write>(
     ensures stops { IfErr result (IsStopped W.contents reader.old reader.new writer.old writer.new
         input.new (waiting outbox.old)) }
 {
-    if let Some(next) = settled(input.unread()) {
+    if let Some(next) = upcoming_in(input.unread()) {
         return Ok(next);
     }
     let Ok(()) = outbox.flush(writer) else {
@@ -80,7 +80,7 @@ fn next_head<R: Read>(reader: &mut Counted<R>, input: &mut Input) -> Result<Upco
         → IsUpcomingHead society next (unread input.new) (R.remaining (inner_of reader.new))) }
     ensures awaits { OnErr result (Awaits (unread input.new)) }
     ensures kept { OnOk result (failures_of reader.new ≡ failures_of reader.old) }
-    ensures fault { IfErr result (λ kind.
+    ensures err { IfErr result (λ kind.
         FailsBy kind input.new.turns (failures_of reader.old) (failures_of reader.new)) }
 {
     loop {
@@ -121,7 +121,7 @@ pub(crate) fn whole_request<R: Read>(
         → IsUpcoming society next (unread input.new) (R.remaining (inner_of reader.new))) }
     ensures awaits { OnErr result (Awaits (unread input.new)) }
     ensures kept { OnOk result (failures_of reader.new ≡ failures_of reader.old) }
-    ensures fault { IfErr result (λ kind.
+    ensures err { IfErr result (λ kind.
         FailsBy kind input.new.turns (failures_of reader.old) (failures_of reader.new)) }
 {
     let size = head.length + head.body as usize;

@@ -5,13 +5,10 @@ use Rattle.std.specs.Str.{str_eq_ignore_ascii_case}
 use Rattle.std.specs.Str.Parse.{digits_value}
 use Rattle.httparse.specs.Grammar.{RequestHead}
 use Rattle.httparse.specs.Spans.{name_and_value}
+use Rattle.cwr_files.specs.Sizes.{max_body}
 use Rattle.work_ids.specs.Digits.{is_number}
 use Rattle.http_text.specs.declared.body_length.BodyLength.{BodyLength}
 use Rattle.http_text.specs.declared.body_length.BodyLength.TheVariants.{Sized, Faulty, Large}
-
--- the greatest body, in bytes (profile)
-abbrev pub max_request_body : ℕ
-max_request_body = 1048576
 
 -- a field has this name; names are compared without case (RFC 9110, section 5.1)
 abbrev pub is_field_named : List ℕ → List ℕ × List ℕ → Bool
@@ -21,9 +18,9 @@ is_field_named name field = str_eq_ignore_ascii_case field.0 name
 abbrev pub field_values : List ℕ → List (List ℕ × List ℕ) → List (List ℕ)
 field_values name fields = map (λ field. field.1) (filter (is_field_named name) fields)
 
--- the body of so many bytes, where it is not too large (profile)
+-- the body of so many bytes, where it is not larger than a transmission may be (profile)
 abbrev pub sized : ℕ → BodyLength
-sized size = if nat_le size max_request_body then Sized size else Large
+sized size = if nat_le size max_body then Sized size else Large
 
 -- no Content-Length means no body; more than one, or one that is not all digits, is a fault (RFC 9110, section 8.6; profile)
 abbrev pub body_length_by : List (List ℕ) → BodyLength

@@ -1,13 +1,8 @@
--- Representation, not meaning: what the parameters of a match took, and what decoding one leaves in the scratch.
-use Rattle.std.specs.Prelude.{◌≡◌, ◌≤◌, ℕ, Bool, true, false, List, length, Option, Some, None}
+-- Representation, not meaning: what the parameters of a match took.
+use Rattle.std.specs.Prelude.{◌≤◌, ℕ, List, length}
 use Rattle.matchit.specs.Params.{AllText, walk}
 use Rattle.matchit.specs.declared.params.Params.{Params}
 use Rattle.http_text.specs.Part.{max_head}
-
--- there is a parameter, and these are its bytes, or there is none
-abbrev pub IsDecoded : Bool → List ℕ → Option (List ℕ) → Type 0
-IsDecoded true bytes value = value ≡ Some bytes
-IsDecoded false bytes value = value ≡ None
 
 -- the parts of the path that the parameters of a match took, each with its name
 abbrev pub parts_of : Params → List (List ℕ × List ℕ)

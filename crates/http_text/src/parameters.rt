@@ -1,7 +1,7 @@
 //! The parameters that a route takes of a path, each decoded once.
-ghost use Rattle.std.specs.Prelude.{◌≡◌, ◌≤◌, length, vec_capacity};
+ghost use Rattle.std.specs.Prelude.{◌≡◌, ◌≤◌, length, option_map, vec_capacity};
 ghost use Rattle.percent_encoding.specs.Percent.{percent_decode};
-ghost use Rattle.http_text.specs.Parameters.{IsDecoded, IsTaken, parts_of};
+ghost use Rattle.http_text.specs.Parameters.{IsTaken, parts_of};
 ghost use Rattle.http_text.specs.Path.{parameter, sender_in_path, plain_number_in_path, transmission_number_in_path, file_number_in_path, segment_in_path, reporter_in_path, return_number_in_path, pool_number_in_path, work_number_in_path, account_in_path};
 
 use crate::limits::MAX_HEAD;
@@ -45,18 +45,18 @@ fn decode(scratch: &mut Vec<u8>, raw: &[u8])
     }
 }
 
-// Decodes the parameter of this name into the scratch; whether there is one.
-fn take_parameter(scratch: &mut Scratch, params: &Params<'_, '_>, name: &str) -> bool
+// The parameter of this name, decoded into the scratch, if there is one.
+fn take_parameter<'a>(
+    scratch: &'a mut Scratch,
+    params: &Params<'_, '_>,
+    name: &str,
+) -> Option<&'a [u8]>
     requires { IsTaken params.now }
-    ensures value { IsDecoded result scratch.new.bytes.items (parameter name.now (parts_of params.now)) }
+    ensures value { option_map (λ bytes. bytes.now) result ≡ parameter name.now (parts_of params.now) }
 {
-    match params.get(name) {
-        Some(raw) => {
-            decode(&mut scratch.bytes, raw.as_bytes());
-            true
-        }
-        None => false,
-    }
+    let raw = params.get(name)?;
+    decode(&mut scratch.bytes, raw.as_bytes());
+    Some(scratch.bytes.as_slice())
 }
 
 /// The sender in the parameters.
@@ -64,10 +64,7 @@ pub(crate) fn sender_in_path(scratch: &mut Scratch, params: &Params<'_, '_>) -> 
     requires { IsTaken params.now }
     ensures value { result ≡ sender_in_path (parts_of params.now) }
 {
-    if !take_parameter(scratch, params, "sender") {
-        return None;
-    }
-    SenderKey::from_bytes(&scratch.bytes).ok()
+    SenderKey::from_bytes(take_parameter(scratch, params, "sender")?).ok()
 }
 
 /// The plain number of a transmission in the parameters.
@@ -78,10 +75,7 @@ pub(crate) fn plain_number_in_path(
     requires { IsTaken params.now }
     ensures value { result ≡ plain_number_in_path (parts_of params.now) }
 {
-    if !take_parameter(scratch, params, "n") {
-        return None;
-    }
-    TransmissionNumber::from_text(&scratch.bytes)
+    TransmissionNumber::from_text(take_parameter(scratch, params, "n")?)
 }
 
 /// The number of a transmission in the parameters, plain or of a year.
@@ -92,10 +86,7 @@ pub(crate) fn number_in_path(
     requires { IsTaken params.now }
     ensures value { result ≡ transmission_number_in_path (parts_of params.now) }
 {
-    if !take_parameter(scratch, params, "n") {
-        return None;
-    }
-    number_spelled(&scratch.bytes)
+    number_spelled(take_parameter(scratch, params, "n")?)
 }
 
 /// The number in the name of a file in the parameters, which is sent to this society.
@@ -107,10 +98,7 @@ pub(crate) fn file_number_in_path(
     requires { IsTaken params.now }
     ensures value { result ≡ file_number_in_path society (parts_of params.now) }
 {
-    if !take_parameter(scratch, params, "name") {
-        return None;
-    }
-    read_file_name(&scratch.bytes, society)
+    read_file_name(take_parameter(scratch, params, "name")?, society)
 }
 
 /// The segment of a sender's numbers in the parameters.
@@ -118,10 +106,7 @@ pub(crate) fn segment_in_path(scratch: &mut Scratch, params: &Params<'_, '_>) ->
     requires { IsTaken params.now }
     ensures value { result ≡ segment_in_path (parts_of params.now) }
 {
-    if !take_parameter(scratch, params, "segment") {
-        return None;
-    }
-    segment_named(&scratch.bytes)
+    segment_named(take_parameter(scratch, params, "segment")?)
 }
 
 /// The reporter in the parameters.
@@ -129,10 +114,7 @@ pub(crate) fn reporter_in_path(scratch: &mut Scratch, params: &Params<'_, '_>) -
     requires { IsTaken params.now }
     ensures value { result ≡ reporter_in_path (parts_of params.now) }
 {
-    if !take_parameter(scratch, params, "reporter") {
-        return None;
-    }
-    Reporter::from_bytes(&scratch.bytes).ok()
+    Reporter::from_bytes(take_parameter(scratch, params, "reporter")?).ok()
 }
 
 /// The number of a return in the parameters.
@@ -143,10 +125,7 @@ pub(crate) fn return_number_in_path(
     requires { IsTaken params.now }
     ensures value { result ≡ return_number_in_path (parts_of params.now) }
 {
-    if !take_parameter(scratch, params, "n") {
-        return None;
-    }
-    ReturnNumber::from_text(&scratch.bytes)
+    ReturnNumber::from_text(take_parameter(scratch, params, "n")?)
 }
 
 /// The number of a pool in the parameters.
@@ -154,10 +133,7 @@ pub(crate) fn pool_in_path(scratch: &mut Scratch, params: &Params<'_, '_>) -> Op
     requires { IsTaken params.now }
     ensures value { result ≡ pool_number_in_path (parts_of params.now) }
 {
-    if !take_parameter(scratch, params, "pool") {
-        return None;
-    }
-    PoolNumber::from_text(&scratch.bytes)
+    PoolNumber::from_text(take_parameter(scratch, params, "pool")?)
 }
 
 /// The work number in the parameters.
@@ -165,10 +141,7 @@ pub(crate) fn work_in_path(scratch: &mut Scratch, params: &Params<'_, '_>) -> Op
     requires { IsTaken params.now }
     ensures value { result ≡ work_number_in_path (parts_of params.now) }
 {
-    if !take_parameter(scratch, params, "work") {
-        return None;
-    }
-    WorkNumber::from_bytes(&scratch.bytes).ok()
+    WorkNumber::from_bytes(take_parameter(scratch, params, "work")?).ok()
 }
 
 /// The account in the parameters.
@@ -176,8 +149,5 @@ pub(crate) fn account_in_path(scratch: &mut Scratch, params: &Params<'_, '_>) ->
     requires { IsTaken params.now }
     ensures value { result ≡ account_in_path (parts_of params.now) }
 {
-    if !take_parameter(scratch, params, "account") {
-        return None;
-    }
-    Account::from_bytes(&scratch.bytes).ok()
+    Account::from_bytes(take_parameter(scratch, params, "account")?).ok()
 }

@@ -5,7 +5,7 @@ ghost use Rattle.http_text.specs.declared.routes.Route.TheVariants as route;
 ghost use Rattle.http_text.specs.Parameters.{IsTaken, parts_of};
 ghost use Rattle.http_text.specs.Part.{max_head};
 ghost use Rattle.http_text.specs.Wanted.{asked_whole, asked_with};
-ghost use Rattle.http_text.specs.Path.{office_routes, is_path_byte, is_path, asked_by_put, inquiry_at, query_for};
+ghost use Rattle.http_text.specs.Path.{office_routes, is_path_byte, is_path, asked_by_put, asked_of, inquiry_at, query_for};
 
 use crate::end_text::state_by;
 use crate::order_text::close_by;
@@ -67,82 +67,69 @@ fn is_path(target: &[u8]) -> bool
 }
 
 // The put of a transmission under a plain number.
-fn put_of_transmission(scratch: &mut Scratch, params: &Params<'_, '_>) -> Wanted
+fn put_of_transmission(scratch: &mut Scratch, params: &Params<'_, '_>) -> Option<Wanted>
     requires { IsTaken params.now }
     ensures asks { (society : ℕ) (body : List ℕ)
-        → asked_with result body ≡ asked_by_put society route.Transmission (parts_of params.now) body }
+        → asked_of (λ wanted. asked_with wanted body) result ≡ asked_by_put society route.Transmission (parts_of params.now) body }
 {
-    let Some(sender) = sender_in_path(scratch, params) else {
-        return elsewhere();
-    };
-    let Some(number) = plain_number_in_path(scratch, params) else {
-        return elsewhere();
-    };
-    Wanted::Fed(TransmissionKey { sender, number })
+    let sender = sender_in_path(scratch, params)?;
+    let number = plain_number_in_path(scratch, params)?;
+    Some(Wanted::Fed(TransmissionKey { sender, number }))
 }
 
 // The put of a transmission under the number in the name of its file, which is sent to this society.
-fn put_of_file(society: u16, scratch: &mut Scratch, params: &Params<'_, '_>) -> Wanted
+fn put_of_file(society: u16, scratch: &mut Scratch, params: &Params<'_, '_>) -> Option<Wanted>
     requires { IsTaken params.now }
     ensures asks { (body : List ℕ)
-        → asked_with result body ≡ asked_by_put society route.File (parts_of params.now) body }
+        → asked_of (λ wanted. asked_with wanted body) result ≡ asked_by_put society route.File (parts_of params.now) body }
 {
-    let Some(sender) = sender_in_path(scratch, params) else {
-        return elsewhere();
-    };
-    let Some(number) = file_number_in_path(society, scratch, params) else {
-        return elsewhere();
-    };
-    Wanted::Fed(TransmissionKey { sender, number })
+    let sender = sender_in_path(scratch, params)?;
+    let number = file_number_in_path(society, scratch, params)?;
+    Some(Wanted::Fed(TransmissionKey { sender, number }))
 }
 
 // The statement of the end of a segment.
-fn put_of_segment(scratch: &mut Scratch, params: &Params<'_, '_>) -> Wanted
+fn put_of_segment(scratch: &mut Scratch, params: &Params<'_, '_>) -> Option<Wanted>
     requires { IsTaken params.now }
     ensures asks { (society : ℕ) (body : List ℕ)
-        → asked_with result body ≡ asked_by_put society route.Segment (parts_of params.now) body }
+        → asked_of (λ wanted. asked_with wanted body) result ≡ asked_by_put society route.Segment (parts_of params.now) body }
 {
-    let Some(sender) = sender_in_path(scratch, params) else {
-        return elsewhere();
-    };
-    let Some(segment) = segment_in_path(scratch, params) else {
-        return elsewhere();
-    };
-    Wanted::Whole(WithBody::Segment { sender, segment })
+    let sender = sender_in_path(scratch, params)?;
+    let segment = segment_in_path(scratch, params)?;
+    Some(Wanted::Whole(WithBody::Segment { sender, segment }))
 }
 
 // The put of a performance return.
-fn put_of_return(scratch: &mut Scratch, params: &Params<'_, '_>) -> Wanted
+fn put_of_return(scratch: &mut Scratch, params: &Params<'_, '_>) -> Option<Wanted>
     requires { IsTaken params.now }
     ensures asks { (society : ℕ) (body : List ℕ)
-        → asked_with result body ≡ asked_by_put society route.Return (parts_of params.now) body }
+        → asked_of (λ wanted. asked_with wanted body) result ≡ asked_by_put society route.Return (parts_of params.now) body }
 {
-    let Some(reporter) = reporter_in_path(scratch, params) else {
-        return elsewhere();
-    };
-    let Some(number) = return_number_in_path(scratch, params) else {
-        return elsewhere();
-    };
-    Wanted::Whole(WithBody::Return(ReturnKey { reporter, number }))
+    let reporter = reporter_in_path(scratch, params)?;
+    let number = return_number_in_path(scratch, params)?;
+    Some(Wanted::Whole(WithBody::Return(ReturnKey { reporter, number })))
 }
 
 // The close of a pool.
-fn put_of_pool(scratch: &mut Scratch, params: &Params<'_, '_>) -> Wanted
+fn put_of_pool(scratch: &mut Scratch, params: &Params<'_, '_>) -> Option<Wanted>
     requires { IsTaken params.now }
     ensures asks { (society : ℕ) (body : List ℕ)
-        → asked_with result body ≡ asked_by_put society route.Pool (parts_of params.now) body }
+        → asked_of (λ wanted. asked_with wanted body) result ≡ asked_by_put society route.Pool (parts_of params.now) body }
 {
-    match pool_in_path(scratch, params) {
-        Some(pool) => Wanted::Whole(WithBody::Pool(pool)),
-        None => elsewhere(),
-    }
+    let pool = pool_in_path(scratch, params)?;
+    Some(Wanted::Whole(WithBody::Pool(pool)))
 }
 
 // What a put asks the office of a society of a route.
-fn put_of(society: u16, route: Route, scratch: &mut Scratch, params: &Params<'_, '_>) -> Wanted
+fn put_of(
+    society: u16,
+    route: Route,
+    scratch: &mut Scratch,
+    params: &Params<'_, '_>,
+) -> Option<Wanted>
     requires { IsTaken params.now }
     ensures asks { (body : List ℕ)
-        → asked_with result body ≡ asked_by_put society route (parts_of params.now) body }
+        → asked_of (λ wanted. asked_with wanted body) result ≡ asked_by_put society route (parts_of params.now) body }
 {
     match route {
         Route::Transmission => put_of_transmission(scratch, params),
@@ -150,7 +137,7 @@ fn put_of(society: u16, route: Route, scratch: &mut Scratch, params: &Params<'_,
         Route::Segment => put_of_segment(scratch, params),
         Route::Return => put_of_return(scratch, params),
         Route::Pool => put_of_pool(scratch, params),
-        _ => elsewhere(),
+        _ => None,
     }
 }
 
@@ -250,7 +237,7 @@ pub fn wanted_for(
         return elsewhere();
     };
     if put {
-        return put_of(society, *found.value, scratch, &found.params);
+        return put_of(society, *found.value, scratch, &found.params).unwrap_or(elsewhere());
     }
     match get_of(*found.value, scratch, &found.params) {
         Some(inquiry) => Wanted::Whole(WithBody::Show(inquiry)),

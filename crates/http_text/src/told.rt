@@ -1,5 +1,5 @@
 //! Answers with the bodies that are made before they are sent.
-ghost use Rattle.std.specs.Prelude.{◌≡◌, IfOk, OnErr};
+ghost use Rattle.std.specs.Prelude.{IfOk, OnErr};
 ghost use Rattle.society_core.specs.Requests.{reply_of, showing_of};
 ghost use Rattle.http_text.specs.Told.{HasBody, HasText, IsReadyToSend, IsShown, NeedsText, TellsReply, told_reply};
 

@@ -94,7 +94,7 @@ impl MemoryStore {
     }
 
     // A cursor at a key.
-    fn placed(&self, tree: u32, key: &Row, direction: Direction) -> Result<Cursor, AllocError>
+    fn cursor_at(&self, tree: u32, key: &Row, direction: Direction) -> Result<Cursor, AllocError>
         ensures { IfOk result (λ c. left_of (current self.now) c ≡ sought (order_of ((memory_view self.now.catalog).shape tree)) direction key.now (rows_at (current self.now) tree)) }
     {
         let order = self.catalog.shape(tree).order();
@@ -248,7 +248,7 @@ impl Store for MemoryStore {
         if self.has_failed() {
             return Err(StoreError::Broken);
         }
-        let placed = self.placed(tree, key, direction)?;
+        let placed = self.cursor_at(tree, key, direction)?;
         if let Some(place) = placed.place {
             self.near[tree as usize % REMEMBERED] = place;
         }

@@ -1,5 +1,5 @@
 //! The reader of returns.
-ghost use Rattle.std.specs.Prelude.{◌≡◌, ◌∷◌, ◌++◌, [], ◌<◌, ◌+◌, ◌^◌, OnOk, IfErr, length};
+ghost use Rattle.std.specs.Prelude.{◌≡◌, ◌<◌, ◌+◌};
 ghost use Rattle.csv.specs.Records.{fields_of};
 ghost use Rattle.csv.specs.Reading.{error_kind};
 ghost use Rattle.perf_returns.specs.Rows.{IsRowTaken};

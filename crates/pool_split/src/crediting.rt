@@ -1,5 +1,5 @@
 //! The credits of a pool.
-ghost use Rattle.std.specs.Prelude.{◌≡◌, ◌≤◌, ◌<◌, ◌^◌, All, IfOk, length, map, sum};
+ghost use Rattle.std.specs.Prelude.{◌≡◌, ◌≤◌, ◌<◌, All, IfOk, length, map, sum};
 ghost use Rattle.std.specs.List.{zip};
 ghost use Rattle.pool_split.specs.Credits.{Ascend, IsPayable, claim_credits, credits, holder_credit, lone_credit, paid_credits, points_claimed, units_of, weights_in};
 

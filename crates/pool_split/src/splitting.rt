@@ -1,6 +1,6 @@
 //! A whole amount split over weights.
-ghost use Rattle.std.specs.Prelude.{◌≡◌, ◌≤◌, ◌<◌, ◌+◌, ◌^◌, ◌*◌, IfOk, length, map, sum};
-ghost use Rattle.pool_split.specs.Threshold.{IsThreshold, threshold_parts, units_of_threshold};
+ghost use Rattle.std.specs.Prelude.{◌≡◌, ◌≤◌, ◌<◌, ◌+◌, ◌^◌, ◌*◌, IfOk, length, sum};
+ghost use Rattle.pool_split.specs.Threshold.{threshold_parts, units_of_threshold};
 ghost use Rattle.pool_split.specs.Split.{IsFair, quotient, remainder, quotients, remainders, split_of};
 
 use crate::threshold::{Threshold, threshold_at};

@@ -1,5 +1,5 @@
 //! Where the units go that whole parts leave: to the greatest remainders, equal ones by place.
-ghost use Rattle.std.specs.Prelude.{◌≡◌, ◌≤◌, ◌<◌, ◌^◌, IfOk, count_by, length, nat_lt};
+ghost use Rattle.std.specs.Prelude.{◌≡◌, ◌≤◌, ◌<◌, IfOk, count_by, length, nat_lt};
 ghost use Rattle.pool_split.specs.Threshold.{IsThreshold};
 
 use std::alloc::{AllocError, Global};

@@ -58,7 +58,7 @@ fn shares_after(sought: &Sought<'_>, before: Shares, line: &Record<'_>, office: 
 
 /// The collection shares of an interested party at an office, out of the records after it: those of its last counting
 /// row, a row being the nearest party's before it; no shares where none counts (profile).
-pub(crate) fn collected(
+pub(crate) fn collection_shares(
     party: &InterestedParty<'_>,
     after: &[Record<'_>],
     office: &Office,

@@ -4,7 +4,7 @@ ghost use Rattle.share_rules.specs.Fault.{collects_too_much, owns_too_much};
 ghost use Rattle.share_rules.specs.Steps.{is_exceeded};
 ghost use Rattle.share_rules.specs.Blocks.{collected_behind};
 
-use crate::collecting::collected;
+use crate::collecting::collection_shares;
 use crate::latest_shares::{collected_in, note, note_all};
 use crate::office::Office;
 use crate::party::InterestedParty;
@@ -38,7 +38,7 @@ fn few_collect_too_much(records: &[Record<'_>], office: &Office) -> bool
         let Some(party) = InterestedParty::of(record) else {
             continue;
         };
-        totals = totals.with(collected(&party, &records[index + 1..], office));
+        totals = totals.with(collection_shares(&party, &records[index + 1..], office));
         if totals.is_exceeded() {
             return true;
         }

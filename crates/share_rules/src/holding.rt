@@ -6,7 +6,7 @@ ghost use Rattle.work_ids.specs.IpiName.{ipi_field_of};
 ghost use Rattle.work_ids.specs.PartyNumber.{party_number_of};
 ghost use Rattle.work_ids.specs.declared.account.Account.{Account};
 
-use crate::collecting::collected;
+use crate::collecting::collection_shares;
 use crate::holder::Holder;
 use crate::kind::Kind;
 use crate::latest_shares::{collected_by, note, note_all};
@@ -68,7 +68,7 @@ fn few_holders(
     let mut holders = Vec::new(alloc);
     for (index, record) in records.iter().enumerate() {
         if let Some(party) = InterestedParty::of(record) {
-            let shares = collected(&party, &records[index + 1..], basis.office);
+            let shares = collection_shares(&party, &records[index + 1..], basis.office);
             push_holder(&mut holders, basis, &party, shares)?;
         }
     }

@@ -3,7 +3,7 @@ ghost use Rattle.std.specs.Prelude.{◌≡◌, [], length};
 ghost use Rattle.share_rules.specs.Parties.{party_in};
 ghost use Rattle.share_rules.specs.Blocks.{AreLatest, TakesParty, TakesRecord, TakesRow, collected_in};
 
-use crate::collecting::{collected, counts, shares_by};
+use crate::collecting::{collection_shares, counts, shares_by};
 use crate::office::Office;
 use crate::party::InterestedParty;
 use crate::party_keys::{BLOCK, PartyKeys};
@@ -93,7 +93,7 @@ pub(crate) fn collected_by(
 {
     match keys.place(party.side, &party.number) {
         Some(place) => latest[place].unwrap_or(Shares::none()),
-        None => collected(party, after, office),
+        None => collection_shares(party, after, office),
     }
 }
 

@@ -1,9 +1,9 @@
 //! Who the office is.
-ghost use Rattle.std.specs.Prelude.{◌≡◌, ◌≤◌, ◌↔◌, IfSome, IsSome, IsTrue, length, take, true};
+ghost use Rattle.std.specs.Prelude.{◌≡◌, ◌≤◌, ◌↔◌, IfSome, IsSome, IsTrue, take, true};
 ghost use Rattle.share_rules.specs.OfficeLimits.{is_office};
 ghost use Rattle.work_ids.specs.Blanks.{fill};
 
-use work_ids::{are_printable, filled};
+use work_ids::{are_printable, fill};
 
 /// Bytes of the longest name of an office.
 const MAX_NAME: usize = 45;
@@ -45,7 +45,7 @@ impl Office {
         Some(Office {
             society,
             territory,
-            name: filled(name),
+            name: fill(name),
             name_length: name.len(),
         })
     }

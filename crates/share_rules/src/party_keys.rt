@@ -49,7 +49,7 @@ fn party_key(side: Side, number: &Fixed<'_, 9>) -> u128
     ensures key { result ≡ party_key side number.now }
     ensures bytes { AreBytes (trimmed number.now) }
 {
-    key_of(side, number.field().trimmed())
+    key_of(side, number.field().trim())
 }
 
 // The key of the party that a record is, is a territory row of, or names as a writer's publisher, and nobody's where

@@ -27,7 +27,7 @@ impl<'a> Sought<'a> {
         Sought {
             side,
             number: number.again(),
-            trimmed: number.field().trimmed(),
+            trimmed: number.field().trim(),
         }
     }
 
@@ -35,7 +35,7 @@ impl<'a> Sought<'a> {
     fn has_number(&self, number: &Fixed<'_, 9>) -> bool
         ensures { result ≡ same_number number.now self.now.number }
     {
-        number.field().trimmed() == self.trimmed
+        number.field().trim() == self.trimmed
     }
 
     /// Whether a record is this interested party.

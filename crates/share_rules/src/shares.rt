@@ -1,5 +1,5 @@
 //! The shares of the three rights.
-ghost use Rattle.std.specs.Prelude.{◌≡◌, ℕ, ◌≤◌};
+ghost use Rattle.std.specs.Prelude.{◌≡◌};
 ghost use Rattle.share_rules.specs.Parties.{no_shares, share_in, share_or_zero};
 
 use crate::kind::Kind;

@@ -8,11 +8,9 @@ use crate::holding::{Basis, holders_among};
 use crate::kind::Kind;
 use crate::office::Office;
 use cwr_files::Transaction;
+use cwr_records::WHOLE;
 use std::alloc::{AllocError, Global};
 use work_ids::{Account, SenderKey};
-
-/// The whole of a right, in hundredths of a percent.
-const WHOLE: u64 = 10_000;
 
 // What nobody claims beside some holders.
 fn unclaimed_beside(holders: &[Holder]) -> Holder

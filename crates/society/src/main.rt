@@ -5,7 +5,7 @@
 
 use http_desk::Counted;
 use society_commands::{
-    Host, HostFiles, NoWords, StandardStreams, ended, start, why_no_words, without_streams,
+    Host, HostFiles, NoWords, StandardStreams, exit_status, start, why_no_words, without_streams,
 };
 use sqlite::Wary;
 use std::env;
@@ -29,11 +29,11 @@ fn run(rt: &HostRuntime) -> u8 {
         Ok(args) => args,
         Err(error) => {
             let why = why_no_words(&error);
-            return ended(Err(why), &mut rt.stderr());
+            return exit_status(Err(why), &mut rt.stderr());
         }
     };
     let Ok(words) = args.collect::<Vec<String>>(alloc) else {
-        return ended(Err(NoWords::Memory), &mut rt.stderr());
+        return exit_status(Err(NoWords::Memory), &mut rt.stderr());
     };
     let mut reader = Counted::new(rt.stdin());
     let mut out = Counted::new(rt.stdout());
@@ -48,5 +48,5 @@ fn run(rt: &HostRuntime) -> u8 {
         &mut rt.stderr(),
     );
     drop(left);
-    ended(outcome, &mut rt.stderr())
+    exit_status(outcome, &mut rt.stderr())
 }

@@ -2,7 +2,7 @@
 ghost use Rattle.std.specs.Prelude.{◌≡◌, IfOk, false};
 ghost use Rattle.clap.specs.Words.{app_of, rule_of};
 ghost use Rattle.clap.specs.declared.builder.command.Command.TheViews.{out-Command as fields_of};
-ghost use Rattle.society_arguments.specs.CommandLine.{audit_command, command_line, flag, number_option, over_database, replay_command, required_option, serve_command, with_office, with_place};
+ghost use Rattle.society_arguments.specs.CommandLine.{audit_command, command_line, flag, over_database, replay_command, required_option, serve_command, with_office, with_place};
 
 use clap::{Arg, ArgAction, Command, value_parser};
 use std::alloc::{AllocError, Global};
@@ -78,7 +78,7 @@ fn over_database<'a>(
 ) -> Result<Command<'a>, AllocError>
     ensures { IfOk result (λ r. (app_of r ≡ over_database name.entry.now) × ((fields_of r).has_globals ≡ false)) }
 {
-    let database = required(alloc, "db", "PATH").help(help);
+    let database = required_option(alloc, "db", "PATH").help(help);
     Command::new(alloc, name).about(about).arg(database)
 }
 
@@ -87,10 +87,10 @@ fn with_place<'a>(alloc: Global, command: Command<'a>) -> Result<Command<'a>, Al
     ensures { IfOk result (λ r. (app_of r ≡ with_place (app_of command.entry))
         × ((fields_of r).has_globals ≡ (fields_of command.entry).has_globals)) }
 {
-    let port = required(alloc, "port", "N")
+    let port = required_option(alloc, "port", "N")
         .value_parser(value_parser!(u16).range(1..=MAX_PORT))
         .help("Port of this machine, 1 to 65535");
-    let connections = required(alloc, "connections", "N")
+    let connections = required_option(alloc, "connections", "N")
         .value_parser(value_parser!(u32).range(1..=MAX_CONNECTIONS))
         .help("Connections to serve, one after another, 1 to 1000000");
     command.arg(port)?.arg(connections)
@@ -101,20 +101,20 @@ fn with_office<'a>(alloc: Global, command: Command<'a>) -> Result<Command<'a>, A
     ensures { IfOk result (λ r. (app_of r ≡ with_office (app_of command.entry))
         × ((fields_of r).has_globals ≡ (fields_of command.entry).has_globals)) }
 {
-    let society = required(alloc, "society", "N")
+    let society = required_option(alloc, "society", "N")
         .value_parser(value_parser!(u16).range(1..=MAX_SOCIETY))
         .help("Number of the society, 1 to 999");
-    let territory = required(alloc, "territory", "N")
+    let territory = required_option(alloc, "territory", "N")
         .value_parser(value_parser!(u16).range(1..=MAX_TERRITORY))
         .help("Territory of the office, 1 to 9999");
-    let name = required(alloc, "name", "TEXT").help(
+    let name = required_option(alloc, "name", "TEXT").help(
         "Name of the office, 1 to 45 bytes of printable ASCII",
     );
     command.arg(society)?.arg(territory)?.arg(name)
 }
 
 // An option that is to be given once, with one value.
-fn required<'a>(alloc: Global, name: &'a str, value: &'a str) -> Arg<'a>
+fn required_option<'a>(alloc: Global, name: &'a str, value: &'a str) -> Arg<'a>
     ensures rule { rule_of result ≡ required_option name.entry.now }
     ensures local { result.global ≡ false }
 {

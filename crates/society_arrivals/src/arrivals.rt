@@ -10,7 +10,7 @@ use crate::going::{go_on, go_over};
 use crate::settling::{put_run, reached_in};
 use share_rules::Office;
 use society_book::{Run, ends_in};
-use society_core::Place;
+use society_core::NumberPlace;
 use society_rows::{Idle, RowFault, TransmissionRow, add_transmission};
 use sqlite::{Alter, Transaction};
 use std::alloc::Global;
@@ -86,7 +86,7 @@ fn arrive_inside<S: Alter>(
     sender: &SenderKey,
     number: TransmissionNumber,
     body: &[u8],
-) -> Result<Place, RowFault>
+) -> Result<NumberPlace, RowFault>
     requires right { file_fault sender.now body.now ≡ None }
     ensures same_reference { tx.new.conn.ghost_name ≡ tx.old.conn.ghost_name }
     ensures does { within S.Store tx.old tx.new DoesOpen result (λ before after place. ArrivesWith office.now sender.now number body.now before.trees after.trees place) }
@@ -96,7 +96,7 @@ fn arrive_inside<S: Alter>(
     let reached = reached_in(tx, sender.as_bytes())?;
     let run = run_from(alloc, tx, office, sender, number, body, reached.front)?;
     take_run(alloc, tx, sender, number, body, reached.works, &run)?;
-    Ok(Place {
+    Ok(NumberPlace {
         front: run.reached(),
         is_applied: reached.front < run.reached(),
     })
@@ -110,7 +110,7 @@ pub fn arrive<S: Alter>(
     sender: &SenderKey,
     number: TransmissionNumber,
     body: &[u8],
-) -> Result<Place, RowFault>
+) -> Result<NumberPlace, RowFault>
     requires right { file_fault sender.now body.now ≡ None }
     ensures added { between S.Store conn.old conn.new (AddsAlone (Arrives office.now sender.now number body.now) (ArrivesTo office.now sender.now number body.now)) result }
 {

@@ -22,7 +22,7 @@ pub(crate) fn go_on<S: Alter>(
 ) -> Result<(), RowFault>
     ensures same_reference { tx.new.conn.ghost_name ≡ tx.old.conn.ghost_name }
     ensures looks { within S.Store tx.old tx.new Looks result (λ db _. RunsOn sender.now run.old run.new db) }
-    ensures errs { within S.Store tx.old tx.new (Errs KeepsUnsound) result }
+    ensures err { within S.Store tx.old tx.new (Errs KeepsUnsound) result }
 {
     match run.reached().checked_add(1) {
         Some(next) => fold_run(tx, sender.as_bytes(), next, run),
@@ -41,7 +41,7 @@ pub(crate) fn go_over<S: Alter>(
     requires { begun ≤ greatest_rank }
     ensures same_reference { tx.new.conn.ghost_name ≡ tx.old.conn.ghost_name }
     ensures looks { within S.Store tx.old tx.new Looks result (λ db _. RunsOver sender.now ends.now begun run.old run.new db) }
-    ensures errs { within S.Store tx.old tx.new (Errs KeepsUnsound) result }
+    ensures err { within S.Store tx.old tx.new (Errs KeepsUnsound) result }
 {
     // The rank from which the last numbers were read: it rises also where a disk lies of what stands behind it.
     let mut rank = begun;
@@ -62,7 +62,7 @@ pub fn whole_run<S: Alter>(
 ) -> Result<Run, RowFault>
     ensures same_reference { tx.new.conn.ghost_name ≡ tx.old.conn.ghost_name }
     ensures looks { within S.Store tx.old tx.new LooksOpen result (IsWholeIn office.now sender.now) }
-    ensures errs { within S.Store tx.old tx.new (Errs KeepsUnsound) result }
+    ensures err { within S.Store tx.old tx.new (Errs KeepsUnsound) result }
 {
     let ends = ends_in(tx, sender.as_bytes())?;
     let mut run = Run::new(alloc, office, 0);

@@ -7,7 +7,7 @@ use Rattle.sqlite_value.specs.declared.value.Value.TheVariants.{Int, Text}
 use Rattle.sender_segments.specs.Ways.{end_stated}
 use Rattle.society_core.specs.Book.{Book, body_at, end_at, front, is_entry, is_in_line, with_end, with_transmission}
 use Rattle.society_core.specs.Ends.{ended_before, fault_stated, number_past, place_stated}
-use Rattle.society_core.specs.declared.store.Place.{Place}
+use Rattle.society_core.specs.declared.store.NumberPlace.{NumberPlace}
 use Rattle.society_book.specs.DerivedRows.{works_to}
 use Rattle.society_book.specs.Kept.{HoldsBook}
 use Rattle.society_book.specs.Outcomes.{settled}
@@ -107,7 +107,7 @@ EndsRun sender stated works run old new =
     → HoldsBook office (with_end book sender (place_stated stated) (end_stated stated)) new
 
 -- the transmission comes, and its number stands there then
-abbrev pub ArrivesWith : Office → List ℕ → ℕ → List ℕ → Trees → Trees → Place → Type 0
+abbrev pub ArrivesWith : Office → List ℕ → ℕ → List ℕ → Trees → Trees → NumberPlace → Type 0
 ArrivesWith office sender number body old new place =
     Arrives office sender number body old new × ArrivesTo office sender number body old place
 

@@ -10,7 +10,7 @@ use Rattle.sender_segments.specs.Ways.{end_stated}
 use Rattle.society_core.specs.Answers.{place_in_book}
 use Rattle.society_core.specs.Book.{Book, body_at, end_at, front, with_end, with_transmission}
 use Rattle.society_core.specs.Ends.{ended_before, number_past, place_stated}
-use Rattle.society_core.specs.declared.store.Place.{Place}
+use Rattle.society_core.specs.declared.store.NumberPlace.{NumberPlace}
 use Rattle.society_rows.specs.Stored.{HasLayout}
 use Rattle.society_rows.specs.declared.fault.RowFault.{RowFault}
 use Rattle.society_book.specs.DerivedRows.{works_to}
@@ -59,7 +59,7 @@ Arrives office sender number body old new =
     → HoldsBook office (with_transmission book sender number body) new
 
 -- and its number stands there then
-abbrev pub ArrivesTo : Office → List ℕ → ℕ → List ℕ → Trees → Place → Type 0
+abbrev pub ArrivesTo : Office → List ℕ → ℕ → List ℕ → Trees → NumberPlace → Type 0
 ArrivesTo office sender number body old place =
     (book : Book) → HoldsBook office book old → body_at book sender number ≡ None → ended_before book sender number ≡ None
     → place ≡ place_in_book (with_transmission book sender number body) sender number

@@ -28,7 +28,7 @@ pub(crate) fn read_body<'a>(
     sender: &SenderKey,
 ) -> Result<Transmission<'a>, RowFault>
     ensures reads { IfOk result (λ transmission. transmission ≡ transmission_in body.now) }
-    ensures fault { IfErr result (λ fault. (fault ≡ Memory) ⊎ (fault ≡ Unread)) }
+    ensures err { IfErr result (λ fault. (fault ≡ Memory) ⊎ (fault ≡ Unread)) }
     ensures blames { IfErr result (Blames (file_fault sender.now body.now ≡ None → ⊥)) }
 {
     match read_transmission(alloc, body, sender) {

@@ -48,7 +48,7 @@ fn ends_shown(alloc: Global, rows: &[Row]) -> Result<SenderEnds, RowFault>
 pub fn ends_in<S: Alter>(tx: &mut Transaction<'_, S>, sender: &[u8]) -> Result<SenderEnds, RowFault>
     ensures same_reference { tx.new.conn.ghost_name ≡ tx.old.conn.ghost_name }
     ensures looks { within S.Store tx.old tx.new LooksOpen result (ReadsEnds sender.now) }
-    ensures errs { within S.Store tx.old tx.new (Errs KeepsUnsound) result }
+    ensures err { within S.Store tx.old tx.new (Errs KeepsUnsound) result }
 {
     let rows = answer(tx, Question::Ends(sender))?;
     ends_shown(*rows.allocator(), rows.as_slice())

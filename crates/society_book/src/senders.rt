@@ -11,7 +11,7 @@ ghost use Rattle.society_rows.specs.Between.{between};
 ghost use Rattle.society_book.specs.Items.{items_of};
 
 use crate::ends_read::ends_of;
-use society_core::{Known, KnownTransmission, Place};
+use society_core::{Known, KnownTransmission, NumberPlace};
 use society_rows::{FrontRow, Idle, Question, RowFault, TransmissionRow, VerdictRow, ask};
 use sqlite::{Alter, Row};
 use std::alloc::Global;
@@ -68,12 +68,12 @@ fn compared_with_kept<S: Alter>(
 }
 
 // Where a number stands at a front among the plain numbers: no end was passed, so all numbers up to the front are in the line.
-fn plain_place(reached: u32, number: TransmissionNumber) -> Place
+fn plain_place(reached: u32, number: TransmissionNumber) -> NumberPlace
     requires { reached ≤ 999999 }
     ensures front { result.front ≡ reached }
     ensures applied { (ends : StatedEnds) → result.is_applied ≡ is_one_of (numbers_up_to ends reached) number }
 {
-    Place {
+    NumberPlace {
         front: reached,
         is_applied: number.value() <= reached,
     }
@@ -85,11 +85,11 @@ fn place_at<S: Alter>(
     sender: &[u8],
     number: TransmissionNumber,
     reached: u32,
-) -> Result<Place, RowFault>
+) -> Result<NumberPlace, RowFault>
     ensures asked { between S.Store conn.old conn.new Asks result (ByBook (λ _ book place. reached ≡ front book sender.now → place ≡ place_in_book book sender.now number)) }
 {
     let ends = ends_of(conn, sender)?;
-    Ok(Place {
+    Ok(NumberPlace {
         front: reached,
         is_applied: ends.is_in_line(reached, number),
     })
@@ -100,7 +100,7 @@ pub fn place_of<S: Alter>(
     conn: &mut Idle<S>,
     sender: &[u8],
     number: TransmissionNumber,
-) -> Result<Place, RowFault>
+) -> Result<NumberPlace, RowFault>
     ensures asked { between S.Store conn.old conn.new Asks result (ByBook (λ _ book place. place ≡ place_in_book book sender.now number)) }
 {
     let reached = front_of(conn, sender)?;

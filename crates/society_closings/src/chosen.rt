@@ -72,7 +72,7 @@ fn version_at<S: Alter>(
 ) -> Result<Option<WorkVersion>, RowFault>
     ensures same_reference { tx.new.conn.ghost_name ≡ tx.old.conn.ghost_name }
     ensures looks { within S.Store tx.old tx.new Looks result (IsVersionAtCut key.now work.now) }
-    ensures errs { within S.Store tx.old tx.new (Errs HoldNoWorks) result }
+    ensures err { within S.Store tx.old tx.new (Errs HoldNoWorks) result }
 {
     let rows = answer(
         tx,
@@ -148,7 +148,7 @@ fn choose_work<S: Alter>(
 ) -> Result<(), RowFault>
     ensures same_reference { tx.new.conn.ghost_name ≡ tx.old.conn.ghost_name }
     ensures looks { within S.Store tx.old tx.new Looks result (λ db _. ChoosesWork key.now work.now chosen.old chosen.new db) }
-    ensures errs { within S.Store tx.old tx.new (Errs HoldNoWorks) result }
+    ensures err { within S.Store tx.old tx.new (Errs HoldNoWorks) result }
 {
     let version = version_at(tx, key, work)?;
     chosen.choose(*work, version)?;
@@ -164,7 +164,7 @@ pub(crate) fn chosen_of<S: Alter>(
 ) -> Result<Chosen, RowFault>
     ensures same_reference { tx.new.conn.ghost_name ≡ tx.old.conn.ghost_name }
     ensures looks { within S.Store tx.old tx.new Looks result (ChoosesWorks key.now works.now) }
-    ensures errs { within S.Store tx.old tx.new (Errs HoldNoWorks) result }
+    ensures err { within S.Store tx.old tx.new (Errs HoldNoWorks) result }
 {
     let mut chosen = Chosen::new(alloc);
     for work in works {

@@ -160,7 +160,7 @@ fn add_transmission<S: Alter>(
 ) -> Result<(), RowFault>
     ensures same_reference { tx.new.conn.ghost_name ≡ tx.old.conn.ghost_name }
     ensures looks { within S.Store tx.old tx.new Looks result (λ db _. AddsOfTransmission weighing.now key.now number chosen.now candidates.old.items candidates.new.items db) }
-    ensures errs { within S.Store tx.old tx.new (Errs (LackNumber weighing.now.office.now key.now number)) result }
+    ensures err { within S.Store tx.old tx.new (Errs (LackNumber weighing.now.office.now key.now number)) result }
 {
     let rows = answer(
         tx,
@@ -187,7 +187,7 @@ fn add_transmissions<S: Alter>(
 ) -> Result<(), RowFault>
     ensures same_reference { tx.new.conn.ghost_name ≡ tx.old.conn.ghost_name }
     ensures looks { within S.Store tx.old tx.new Looks result (λ db _. AddsChosen weighing.now key.now chosen.now candidates.old.items candidates.new.items db) }
-    ensures errs { within S.Store tx.old tx.new (Errs (LackChosen weighing.now.office.now key.now (is_tallied weighing.now.tally.now) chosen.now)) result }
+    ensures err { within S.Store tx.old tx.new (Errs (LackChosen weighing.now.office.now key.now (is_tallied weighing.now.tally.now) chosen.now)) result }
 {
     let numbers = chosen.transmissions(weighing.alloc)?;
     for number in numbers.as_slice() {
@@ -206,7 +206,7 @@ fn add_sender<S: Alter>(
 ) -> Result<(), RowFault>
     ensures same_reference { tx.new.conn.ghost_name ≡ tx.old.conn.ghost_name }
     ensures looks { within S.Store tx.old tx.new Looks result (λ db _. AddsOfSender weighing.now key.now named.now candidates.old.items candidates.new.items db) }
-    ensures errs { within S.Store tx.old tx.new (Errs (LackSender weighing.now.office.now key.now (is_tallied weighing.now.tally.now) named.now)) result }
+    ensures err { within S.Store tx.old tx.new (Errs (LackSender weighing.now.office.now key.now (is_tallied weighing.now.tally.now) named.now)) result }
 {
     let works = named.works_of(weighing.alloc, &key.sender)?;
     let chosen = chosen_of(weighing.alloc, tx, key, works.as_slice())?;
@@ -225,7 +225,7 @@ fn candidates_of<S: Alter>(
 ) -> Result<Vec<Candidate>, RowFault>
     ensures same_reference { tx.new.conn.ghost_name ≡ tx.old.conn.ghost_name }
     ensures looks { within S.Store tx.old tx.new Looks result (λ db candidates. AreForCut kind office.now tally.now cut.now named.now db candidates.items) }
-    ensures errs { within S.Store tx.old tx.new (Errs (LackSenders office.now cut.now (is_tallied tally.now) named.now)) result }
+    ensures err { within S.Store tx.old tx.new (Errs (LackSenders office.now cut.now (is_tallied tally.now) named.now)) result }
 {
     let weighing = Weighing {
         alloc,
@@ -254,9 +254,9 @@ pub fn candidates_in<S: Alter>(
 ) -> Result<Vec<Candidate>, RowFault>
     ensures same_reference { tx.new.conn.ghost_name ≡ tx.old.conn.ghost_name }
     ensures looks { within S.Store tx.old tx.new Looks result (λ db candidates. AreForOrder kind office.now tally.now order.now works.now db candidates.items) }
-    ensures errs { within S.Store tx.old tx.new (Errs (LackCut office.now order.now tally.now works.now)) result }
+    ensures err { within S.Store tx.old tx.new (Errs (LackCut office.now order.now tally.now works.now)) result }
 {
     let recordings = tally.recordings(alloc)?;
-    let named = works.named(alloc, recordings.as_slice(), order.cut())?;
+    let named = works.named_works(alloc, recordings.as_slice(), order.cut())?;
     candidates_of(alloc, kind, tx, office, tally, order.cut(), &named)
 }

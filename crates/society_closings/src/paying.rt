@@ -52,7 +52,7 @@ fn add_return<S: Alter>(
 ) -> Result<(), RowFault>
     ensures same_reference { tx.new.conn.ghost_name ≡ tx.old.conn.ghost_name }
     ensures looks { within S.Store tx.old tx.new Looks result (λ db _. TalliesReturn key.now tally.old tally.new db) }
-    ensures errs { within S.Store tx.old tx.new (Errs (LackReturn key.now)) result }
+    ensures err { within S.Store tx.old tx.new (Errs (LackReturn key.now)) result }
 {
     let rows = answer(
         tx,
@@ -69,7 +69,7 @@ pub(crate) fn tally_of<S: Alter>(
 ) -> Result<Tally, RowFault>
     ensures same_reference { tx.new.conn.ghost_name ≡ tx.old.conn.ghost_name }
     ensures looks { within S.Store tx.old tx.new Looks result (TalliesReturns returns.now) }
-    ensures errs { within S.Store tx.old tx.new (Errs (LackReturns returns.now)) result }
+    ensures err { within S.Store tx.old tx.new (Errs (LackReturns returns.now)) result }
 {
     let mut tally = Tally::new(alloc);
     for key in returns {
@@ -107,7 +107,7 @@ fn credits_for<S: Alter>(
 ) -> Result<Vec<Credit>, RowFault>
     ensures same_reference { tx.new.conn.ghost_name ≡ tx.old.conn.ghost_name }
     ensures looks { within S.Store tx.old tx.new Looks result (λ db credits. PaysTallied office.now order.now tally.now works.now db credits.items) }
-    ensures errs { within S.Store tx.old tx.new (Errs (LackTallied office.now order.now tally.now works.now)) result }
+    ensures err { within S.Store tx.old tx.new (Errs (LackTallied office.now order.now tally.now works.now)) result }
 {
     let candidates = candidates_in(alloc, order.kind(), tx, office, tally, order, works)?;
     credits_by(alloc, tally, &candidates, order)
@@ -125,7 +125,8 @@ pub fn credits_in<S: Alter>(
 ) -> Result<Vec<Credit>, RowFault>
     ensures same_reference { tx.new.conn.ghost_name ≡ tx.old.conn.ghost_name }
     ensures looks { within S.Store tx.old tx.new Looks result (λ db credits. PaysAmong office.now order.now works.now db credits.items) }
-    ensures errs { within S.Store tx.old tx.new (Errs (CannotPayAmong office.now order.now works.now)) result }
+    ensures err { within S.Store tx.old tx.new (Errs (CannotPayAmong office.now order.now works.now)) result }
+    ensures kept { IsOrder order.now }
 {
     let tally = tally_of(alloc, tx, order.returns())?;
     credits_for(alloc, tx, office, order, &tally, works)

@@ -84,7 +84,7 @@ impl Wanted {
         ensures more { OnOk result (WantsMore self.old self.new) }
         ensures wants { IfOk result (λ tally. Wants self.new order.now.cut (is_tallied tally)) }
         ensures looks { within S.Store tx.old tx.new Looks result (TalliesOrder order.now) }
-        ensures errs { within S.Store tx.old tx.new (Errs (LackReturns order.now.returns)) result }
+        ensures err { within S.Store tx.old tx.new (Errs (LackReturns order.now.returns)) result }
         ensures kept { IsOrder order.now }
     {
         let tally = tally_of(alloc, tx, order.returns())?;
@@ -109,7 +109,7 @@ impl Wanted {
     ) -> Result<WorksByRecording, RowFault>
         ensures same_reference { tx.new.conn.ghost_name ≡ tx.old.conn.ghost_name }
         ensures looks { within S.Store tx.old tx.new Looks result (ListsWorks (wants self.now)) }
-        ensures errs { within S.Store tx.old tx.new (Errs HoldNoWorks) result }
+        ensures err { within S.Store tx.old tx.new (Errs HoldNoWorks) result }
     {
         let senders = self.senders(alloc)?;
         let mut works = WorksByRecording::new(alloc);

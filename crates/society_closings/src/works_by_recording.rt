@@ -93,7 +93,7 @@ impl WorksByRecording {
     }
 
     // The works that are listed under a recording.
-    fn listed(&self, isrc: Isrc) -> &[(SenderKey, WorkNumber)]
+    fn works_of(&self, isrc: Isrc) -> &[(SenderKey, WorkNumber)]
         ensures listed { result.now ≡ works_listed self.now isrc }
         ensures isrc { is_isrc isrc ≡ true }
     {
@@ -171,7 +171,7 @@ impl WorksByRecording {
         ensures same_reference { tx.new.conn.ghost_name ≡ tx.old.conn.ghost_name }
         ensures more { OnOk result (ListsMore self.old self.new) }
         ensures looks { within S.Store tx.old tx.new Looks result (λ db _. ListsSender (bytes_eq sender.now) wanted.now self.new db) }
-        ensures errs { within S.Store tx.old tx.new (Errs HoldNoWorks) result }
+        ensures err { within S.Store tx.old tx.new (Errs HoldNoWorks) result }
     {
         let rows = sender_recordings(tx, sender.as_bytes())?;
         self.list_rows(alloc, rows.as_slice(), wanted)?;
@@ -179,7 +179,7 @@ impl WorksByRecording {
     }
 
     /// The works of the senders of a cut that are listed under one of these recordings.
-    pub(crate) fn named(
+    pub(crate) fn named_works(
         &self,
         alloc: Global,
         recordings: &[Isrc],
@@ -191,7 +191,7 @@ impl WorksByRecording {
     {
         let mut named = NamedWorks::of_cut(alloc, cut)?;
         for isrc in recordings {
-            named.note_all(self.listed(*isrc))?;
+            named.note_all(self.works_of(*isrc))?;
         }
         Ok(named)
     }

@@ -28,7 +28,7 @@ pub fn audit_file<O: OpenDatabase + Drop, W: Write, E: Write>(
 ) -> (u8, Left<O::File>)
     ensures status { (result.0 ≡ 0) ⊎ (result.0 ≡ 1) }
     ensures sound { result.0 ≡ 0 → FindsSound O.OpenDatabase path.now office.now W.contents out.old out.new result.1 }
-    ensures fault { result.0 ≡ 1 → FindsUnsound O.OpenDatabase path.now office.now out.old out.new result.1 }
+    ensures err { result.0 ≡ 1 → FindsUnsound O.OpenDatabase path.now office.now out.old out.new result.1 }
 {
     let database = Database {
         path,
@@ -57,7 +57,7 @@ pub fn audit_database<M: Alter + Drop, W: Write, E: Write>(
     ensures status { (result.0 ≡ 0) ⊎ (result.0 ≡ 1) }
     ensures sound { result.0 ≡ 0 → IsSoundDatabase office.now (state M.Store connection) (state M.Store result.1)
         × Prints W.contents out.old out.new (codes "sound\n") }
-    ensures fault { result.0 ≡ 1 → IsNotSound office.now (state M.Store connection) (state M.Store result.1)
+    ensures err { result.0 ≡ 1 → IsNotSound office.now (state M.Store connection) (state M.Store result.1)
         × (out.new ≡ out.old) }
 {
     match audit_existing(alloc, connection, office) {

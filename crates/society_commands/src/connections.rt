@@ -33,7 +33,7 @@ pub fn serve_connections<C: Clock, S: Store, W: Write>(
     ensures served { OnOk result.0
         (ServesConnections S.state desk.old desk.new W.contents out.old out.new connections) }
     ensures admitted { OnOk result.0 (HasAdmitted listener result.1 connections false) }
-    ensures fault { OnErr result.0
+    ensures err { OnErr result.0
         (StopsEarly S.state desk.old desk.new W.contents out.old out.new listener result.1 connections) }
 {
     let mut door = Door::new(listener);
@@ -54,7 +54,7 @@ fn serve_at<C: Clock, S: Store, W: Write>(
     ensures served { OnOk result
         (ServesConnections S.state desk.old desk.new W.contents out.old out.new connections) }
     ensures admitted { OnOk result (HasAdmitted (listener_of door.old) door.new connections false) }
-    ensures fault { OnErr result
+    ensures err { OnErr result
         (StopsEarly S.state desk.old desk.new W.contents out.old out.new (listener_of door.old) door.new connections) }
 {
     for number in 0..connections {
@@ -107,7 +107,7 @@ fn serve_between<S: Store, R: Read, W: Write>(
     ensures kept { OnOk result (NeitherFails reader.old reader.new writer.old writer.new) }
     ensures served { IfOk result
         (IsServed S.state R.remaining W.contents desk.old desk.new reader.old writer.old writer.new) }
-    ensures fault { IfErr result (IsGivenUp S.state R.remaining W.contents
+    ensures err { IfErr result (IsGivenUp S.state R.remaining W.contents
         desk.old desk.new reader.old reader.new writer.old writer.new most_turns) }
     ensures turns { KeepsTurns R.remaining reader.old reader.new most_turns }
 {

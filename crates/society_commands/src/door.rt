@@ -34,7 +34,7 @@ impl Door {
     pub(crate) fn admit(&mut self) -> Result<TcpStream, AcceptFault>
         requires { accepted_of self.old < 2 ^ 32 }
         ensures admitted { OnOk result (HasAdmitted (listener_of self.old) self.new (accepted_of self.old + 1) (has_failed self.old)) }
-        ensures fault { OnErr result (HasAdmitted (listener_of self.old) self.new (accepted_of self.old) true) }
+        ensures err { OnErr result (HasAdmitted (listener_of self.old) self.new (accepted_of self.old) true) }
     {
         match self.listener.accept() {
             Ok((stream, _)) => {

@@ -34,7 +34,7 @@ pub trait Listen {
     /// Listens at an address. The error is the system's: that the port is taken, say.
     fn listen(&self, address: SocketAddrV4) -> io::Result<TcpListener>
         ensures listens { IfOk result (λ listener. listens_at address listener) }
-        ensures fault { OnErr result (may_fail_at address) };
+        ensures err { OnErr result (may_fail_at address) };
 }
 
 /// What opens the database at a path, once: an opener is used up by it, so that what is served is what was there.

@@ -23,5 +23,5 @@ pub use left::Left;
 pub use opening::{Job, open_fault, serve_file};
 pub use replaying::{BROKEN_OFF, SERVED, TURNS, replay, report};
 pub use serving::serve_store;
-pub use starting::{NoWords, ended, start, why_no_words};
+pub use starting::{NoWords, exit_status, start, why_no_words};
 pub use streams::{StandardStreams, without_streams};

@@ -115,7 +115,7 @@ fn open_tables<M: Alter>(
 ) -> Result<Tables<M>, (OpenFault, Connection<M>)>
     requires { connection.in_transaction ≡ false }
     ensures over { IfOk result (λ t. IsOver office.now existing (state M.Store connection) (⟦<Tables<M> as Store>⟧.state t)) }
-    ensures fault { IfErr result (λ e. IsNotOpened office.now existing (state M.Store connection) (state M.Store e.1)) }
+    ensures err { IfErr result (λ e. IsNotOpened office.now existing (state M.Store connection) (state M.Store e.1)) }
 {
     if existing {
         open_existing(alloc, connection, office)

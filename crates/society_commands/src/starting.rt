@@ -141,7 +141,7 @@ pub fn why_no_words(error: &io::Error) -> NoWords
 
 /// Ends the program: the status is that of what it did; where its words could not be had one line is written on `err`, and the status
 /// is 2 where one is no text, 1 where memory was refused.
-pub fn ended<E: Write>(outcome: Result<u8, NoWords>, err: &mut E) -> u8
+pub fn exit_status<E: Write>(outcome: Result<u8, NoWords>, err: &mut E) -> u8
     ensures { result ≡ status_after outcome }
 {
     match outcome {

@@ -40,18 +40,18 @@ use Rattle.society_core.specs.declared.store.KnownEnd.TheVariants as ends
 use Rattle.society_core.specs.declared.store.KnownTransmission.{KnownTransmission}
 use Rattle.society_core.specs.declared.store.KnownTransmission.TheVariants as transmissions
 use Rattle.society_core.specs.declared.store.Payment.{Payment}
-use Rattle.society_core.specs.declared.store.Place.{Place}
+use Rattle.society_core.specs.declared.store.NumberPlace.{NumberPlace}
 use Rattle.society_core.specs.declared.store.Payment.TheVariants as payments
 use Rattle.society_core.specs.declared.transmission_key.TransmissionKey.{TransmissionKey}
 use Rattle.works_core.specs.Recordings.{isrcs_of, right_one}
 use Rattle.works_core.specs.declared.version.WorkVersion.{WorkVersion}
 
 -- where a number stands: its sender's front, and whether it is in the sender's line
-abbrev pub place_by : ℕ → Bool → Place
+abbrev pub place_by : ℕ → Bool → NumberPlace
 place_by front is_applied = record { front = front; is_applied = is_applied }
 
 -- where a number stands in a book
-abbrev pub place_in_book : Book → List ℕ → ℕ → Place
+abbrev pub place_in_book : Book → List ℕ → ℕ → NumberPlace
 place_in_book book sender number = place_by (front book sender) (is_in_line book sender number)
 
 -- a transmission is applied where its number is in its sender's line, else it is held (profile)
@@ -59,7 +59,7 @@ abbrev pub standing_at : Bool → Standing
 standing_at is_applied = if is_applied then Applied else Held
 
 -- how a transmission stands at a place, and whether it came again
-abbrev pub arrival_at : Bool → Place → Arrival
+abbrev pub arrival_at : Bool → NumberPlace → Arrival
 arrival_at known place = record { known = known; front = place.front; standing = standing_at place.is_applied }
 
 -- how a transmission stands in a book, and whether it came again
@@ -81,7 +81,7 @@ free_under None = transmissions.Absent
 free_under (Some last) = transmissions.Ended last
 
 -- what the book has under a transmission's number, with its place where it is these bytes
-abbrev pub known_with : Place → Option ℕ → Known → KnownTransmission
+abbrev pub known_with : NumberPlace → Option ℕ → Known → KnownTransmission
 known_with place ended Absent = free_under ended
 known_with place ended Same = transmissions.Same place
 known_with place ended Other = transmissions.Other

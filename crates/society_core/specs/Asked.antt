@@ -14,7 +14,7 @@ use Rattle.society_core.specs.declared.return_key.ReturnKey.{ReturnKey}
 use Rattle.society_core.specs.declared.store.Known.{Known}
 use Rattle.society_core.specs.declared.store.KnownEnd.{KnownEnd}
 use Rattle.society_core.specs.declared.store.KnownTransmission.{KnownTransmission}
-use Rattle.society_core.specs.declared.store.Place.{Place}
+use Rattle.society_core.specs.declared.store.NumberPlace.{NumberPlace}
 use Rattle.society_core.specs.declared.store.StoreFault.{StoreFault}
 use Rattle.sender_segments.specs.Ways.{end_stated}
 use Rattle.work_ids.specs.SegmentEnds.{StatedEnd}
@@ -34,7 +34,7 @@ abbrev pub IsAckOf : State → List ℕ → ℕ → Option (Vec ℕ Global) → 
 IsAckOf s sender number text = option_map (λ bytes. bytes.items) text ≡ ack s.office s.book sender number
 
 -- where a number of a sender stands
-abbrev pub IsPlaceOf : State → List ℕ → ℕ → Place → Type 0
+abbrev pub IsPlaceOf : State → List ℕ → ℕ → NumberPlace → Type 0
 IsPlaceOf s sender number place = place ≡ place_in_book s.book sender number
 
 -- how a sender stands
@@ -62,7 +62,7 @@ abbrev pub IsBalanceOf : State → Account → ℕ → Type 0
 IsBalanceOf s account units = units ≡ balance s.office s.book account
 
 -- a sender's transmission is added, and it is told where its number stands then
-abbrev pub AddsArrival : State → State → List ℕ → ℕ → List ℕ → Result Place StoreFault → Type 0
+abbrev pub AddsArrival : State → State → List ℕ → ℕ → List ℕ → Result NumberPlace StoreFault → Type 0
 AddsArrival old new sender number body result =
     let next = with_transmission old.book sender number body in
     Addition old new next result (λ place. place ≡ place_in_book next sender number)

@@ -12,7 +12,7 @@ use crate::inquiry::{Inquiry, Showing};
 use crate::order::PoolOrder;
 use crate::refusal::Refusal;
 use crate::return_key::ReturnKey;
-use crate::store::{Known, KnownEnd, KnownTransmission, Payment, Place, Store};
+use crate::store::{Known, KnownEnd, KnownTransmission, NumberPlace, Payment, Store};
 use crate::transmission_key::TransmissionKey;
 use cwr_files::{FileReader, ReadFault};
 use perf_returns::read_return;
@@ -38,7 +38,7 @@ impl<S: Store> Model for Desk<S> {
 }
 
 // How a transmission stands at a place, and whether it came again.
-fn arrival(known: bool, place: Place) -> Arrival
+fn arrival(known: bool, place: NumberPlace) -> Arrival
     ensures { result ≡ arrival_at known place }
 {
     Arrival {
@@ -53,7 +53,7 @@ fn arrival(known: bool, place: Place) -> Arrival
 }
 
 // A reader that was fed a whole body.
-fn fed(alloc: Global, sender: &SenderKey, body: &[u8]) -> Result<FileReader, AllocError>
+fn read_whole(alloc: Global, sender: &SenderKey, body: &[u8]) -> Result<FileReader, AllocError>
     ensures { IfOk result (λ reader. (reader.sender ≡ sender.now) × WasFed reader body.now) }
 {
     let mut reader = FileReader::new(alloc, sender);
@@ -98,7 +98,7 @@ impl<S: Store> Desk<S> {
     ) -> Result<Arrival, Refusal>
         ensures { Proceeds (S.state self.old) (S.state self.new) (Puts sender.now number body.now) (told Arrived result) }
     {
-        let reader = fed(alloc, sender, body)?;
+        let reader = read_whole(alloc, sender, body)?;
         self.put_fed(alloc, sender, number, reader)
     }
 
@@ -129,7 +129,10 @@ impl<S: Store> Desk<S> {
         requires { reader.sender ≡ sender.now }
         ensures { Proceeds (S.state self.old) (S.state self.new) (Puts sender.now number reader.body) (told Arrived result) }
     {
-        match self.store.known(sender, number, reader.body())? {
+        match self
+            .store
+            .known_transmission(sender, number, reader.body())?
+        {
             KnownTransmission::Same(place) => Ok(arrival(true, place)),
             KnownTransmission::Other => Err(Refusal::Reused),
             KnownTransmission::Ended(last) => match reader.fault() {

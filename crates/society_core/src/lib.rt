@@ -46,6 +46,6 @@ pub use request::Request;
 pub use return_key::ReturnKey;
 pub use runs::{answer, run};
 pub use segment_key::SegmentKey;
-pub use store::{Known, KnownEnd, KnownTransmission, Payment, Place, Store, StoreFault};
+pub use store::{Known, KnownEnd, KnownTransmission, NumberPlace, Payment, Store, StoreFault};
 pub use transmission_key::TransmissionKey;
 pub use work::show;

@@ -185,8 +185,6 @@ fn transmission_key(sender: SenderKey, number: u64) -> TransmissionKey
     ensures key { result ≡ transmission_key sender number }
     ensures sender { is_sender_key sender ≡ true }
 {
-    // A sender is a sender key by its type.
-    let _sender = sender.as_bytes();
     let Some(number) = transmission_number(number) else {
         unreachable!();
     };

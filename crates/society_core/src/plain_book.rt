@@ -19,7 +19,7 @@ use crate::line::{Line, front_on};
 use crate::order::PoolOrder;
 use crate::return_key::ReturnKey;
 use crate::segment_key::SegmentKey;
-use crate::store::Place;
+use crate::store::NumberPlace;
 use crate::transmission_key::TransmissionKey;
 use std::alloc::{AllocError, Global};
 use std::collections::BTreeMap;
@@ -298,11 +298,11 @@ impl PlainBook {
     }
 
     /// Where a number of a sender stands.
-    pub fn place(&self, sender: &SenderKey, number: TransmissionNumber) -> Place
+    pub fn place(&self, sender: &SenderKey, number: TransmissionNumber) -> NumberPlace
         requires { IsSound self.now }
         ensures { result ≡ place_in_book self.now sender.now number }
     {
-        Place {
+        NumberPlace {
             front: self.front(sender),
             is_applied: self.is_applied(sender, number),
         }
@@ -324,7 +324,7 @@ impl PlainBook {
     }
 
     /// The numbers of a sender's held transmissions, ascending.
-    pub fn held(
+    pub fn held_numbers(
         &self,
         alloc: Global,
         sender: &SenderKey,
@@ -358,7 +358,7 @@ impl PlainBook {
         sender: &SenderKey,
         number: TransmissionNumber,
         body: Vec<u8>,
-    ) -> Result<Place, AllocError>
+    ) -> Result<NumberPlace, AllocError>
         requires sound { IsSound self.old }
         requires free { body_at self.old sender.now number ≡ None }
         requires after { IsSound (with_transmission self.old sender.now number body.items) }
@@ -378,7 +378,7 @@ impl PlainBook {
             body,
         )?;
         let line = Line::new(&self.transmissions, &self.ends, sender, front);
-        Ok(Place {
+        Ok(NumberPlace {
             front,
             is_applied: line.has(number),
         })

@@ -10,7 +10,7 @@ use crate::plain_book::PlainBook;
 use crate::plain_lines::{ack_of, known_end_in, known_in, verdicts_of, work_of};
 use crate::plain_pools::{balance_of, credits_of_pool, known_pool_in, known_return_in, payment_of};
 use crate::return_key::ReturnKey;
-use crate::store::{Known, KnownEnd, KnownTransmission, Payment, Place, Store, StoreFault};
+use crate::store::{Known, KnownEnd, KnownTransmission, NumberPlace, Payment, Store, StoreFault};
 use cwr_files::FileReader;
 use pool_split::Credit;
 use share_rules::Office;
@@ -52,7 +52,7 @@ impl Store for PlainStore {
         &self.office
     }
 
-    fn known(
+    fn known_transmission(
         &mut self,
         sender: &SenderKey,
         number: TransmissionNumber,
@@ -73,7 +73,11 @@ impl Store for PlainStore {
         Ok(ack_of(alloc, &self.office, &self.book, sender, number)?)
     }
 
-    fn place(&mut self, sender: &SenderKey, number: TransmissionNumber) -> Result<Place, StoreFault>
+    fn place(
+        &mut self,
+        sender: &SenderKey,
+        number: TransmissionNumber,
+    ) -> Result<NumberPlace, StoreFault>
         ensures question { AsksPlain self.old.office self.old.book self.new.office self.new.book result (λ s. IsPlaceOf s sender.now number) }
         ensures never { is_ok result ≡ true }
     {
@@ -85,7 +89,7 @@ impl Store for PlainStore {
     }
 
     fn standing(&mut self, alloc: Global, sender: &SenderKey) -> Result<SenderStatus, StoreFault> {
-        let held = self.book.held(alloc, sender)?;
+        let held = self.book.held_numbers(alloc, sender)?;
         Ok(SenderStatus {
             front: self.book.front(sender),
             held,
@@ -139,7 +143,7 @@ impl Store for PlainStore {
         _alloc: Global,
         number: TransmissionNumber,
         reader: FileReader,
-    ) -> Result<Place, StoreFault> {
+    ) -> Result<NumberPlace, StoreFault> {
         let sender = *reader.sender();
         // What these two say of themselves is part of what a sound book says.
         let (_key, _number) = (sender.as_bytes(), number.value());
@@ -176,8 +180,6 @@ impl Store for PlainStore {
         pool: PoolNumber,
         order: &PoolOrder,
     ) -> Result<(), StoreFault> {
-        // The number's limits are part of what a sound book says.
-        let _number = pool.value();
         Ok(self.book.insert_pool(alloc, pool, order)?)
     }
 

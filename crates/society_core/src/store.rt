@@ -32,7 +32,7 @@ pub enum Known {
 
 /// Where a number of a sender stands.
 #[derive(Clone, Copy, Debug, PartialEq, Eq)]
-pub struct Place {
+pub struct NumberPlace {
     /// The sender's front, as a rank.
     pub front: u32,
     /// Whether the number is in the sender's line.
@@ -47,7 +47,7 @@ pub enum KnownTransmission {
     /// Nothing, and the sender stated that the number's segment ends before it, with this number.
     Ended(u32),
     /// The same bytes; where the number stands.
-    Same(Place),
+    Same(NumberPlace),
     /// Other bytes.
     Other,
 }
@@ -118,7 +118,7 @@ pub trait Store {
         ensures { result.now ≡ (state self.now).office };
 
     /// What the book has under a transmission's number, with its place where it is these bytes.
-    fn known(
+    fn known_transmission(
         &mut self,
         sender: &SenderKey,
         number: TransmissionNumber,
@@ -136,7 +136,11 @@ pub trait Store {
         ensures { Question (state self.old) (state self.new) result (IsAckOf (state self.old) sender.now number) };
 
     /// Where a number of a sender stands.
-    fn place(&mut self, sender: &SenderKey, number: TransmissionNumber) -> Result<Place, StoreFault>
+    fn place(
+        &mut self,
+        sender: &SenderKey,
+        number: TransmissionNumber,
+    ) -> Result<NumberPlace, StoreFault>
         ensures question { Question (state self.old) (state self.new) result (IsPlaceOf (state self.old) sender.now number) };
 
     /// What the book has of the segment of an end.
@@ -197,7 +201,7 @@ pub trait Store {
         alloc: Global,
         number: TransmissionNumber,
         reader: FileReader,
-    ) -> Result<Place, StoreFault>
+    ) -> Result<NumberPlace, StoreFault>
         requires free { IsTrue (state self.old).is_clean → body_at (state self.old).book reader.sender number ≡ None }
         requires within { IsTrue (state self.old).is_clean → ended_before (state self.old).book reader.sender number ≡ None }
         requires right { file_fault reader.sender reader.body ≡ None }

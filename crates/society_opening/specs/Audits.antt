@@ -24,9 +24,9 @@ pub record Tries (Was : Database → Type 0) (number : ℕ) (office : Office) (H
   pub sound : HasCleanDisk new → Was old.now → OnOk result ∥ Holds old.now.trees ∥₁
   pub was_open : HasCleanDisk new → IsTrue new.is_open → IsTrue old.is_open
   pub shown : HasCleanDisk new → ShowsAs old.committed new
-  pub told : HasCleanDisk new → Was old.now → IfErr result (TellsOfficeIn number office old.now)
+  pub err : HasCleanDisk new → Was old.now → IfErr result (TellsOfficeIn number office old.now)
   pub damaged : HasCleanDisk new → Was old.now → IfErr result (λ e. e ≡ fault.Damaged → ¬ Holds old.now.trees)
-  pub failed : HasCleanDisk new → Was old.now → IfErr result (λ e. e ≡ fault.Store → MayFail old new)
+  pub medium : HasCleanDisk new → Was old.now → IfErr result (λ e. e ≡ fault.Store → MayFail old new)
   pub survives : Survives old new (λ _. ⊥)
 
 -- so tables of layout 3, which hold the book that they stand for
@@ -42,7 +42,7 @@ TriesOver office layout = Tries (HasOlder layout) (number_of layout) office (Hol
 pub record Audits (office : Office) (old new : State) (result : Result (Unit {0}) OpenFault) : Type 0 where
   pub sound : HasCleanDisk new → IsTrue old.is_open → OnOk result (IsSoundIn office old.committed)
   pub shown : HasCleanDisk new → ShowsAs old.committed new
-  pub told : HasCleanDisk new → IsTrue old.is_open → IfErr result (TellsDatabase office old.committed)
+  pub err : HasCleanDisk new → IsTrue old.is_open → IfErr result (TellsDatabase office old.committed)
   pub empty : IsTrue old.is_open → IsBare old.committed → IsErrAnd result (λ e. e ≡ fault.Empty)
-  pub failed : HasCleanDisk new → IsTrue old.is_open → IfErr result (λ e. e ≡ fault.Store → MayFail old new)
+  pub medium : HasCleanDisk new → IsTrue old.is_open → IfErr result (λ e. e ≡ fault.Store → MayFail old new)
   pub survives : Survives old new (λ _. ⊥)

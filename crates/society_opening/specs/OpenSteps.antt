@@ -56,6 +56,6 @@ pub record TakesOver (office : Office) (layout : OlderLayout) (old new : State) 
   pub settled : IsTrue old.is_open → old.now ≡ old.committed
   pub taken : HasCleanDisk new → HasOlder layout old.now → OnOk result (TakesOffice office layout old.now new.now tt × (new.now ≡ new.committed))
   pub neither : HasCleanDisk new → OnErr result (ShowsAs old.committed new)
-  pub told : HasCleanDisk new → HasOlder layout old.now → IfErr result (TellsOfficeIn (number_of layout) office old.now)
+  pub err : HasCleanDisk new → HasOlder layout old.now → IfErr result (TellsOfficeIn (number_of layout) office old.now)
   pub damaged : HasCleanDisk new → HasOlder layout old.now → IfErr result (λ e. e ≡ fault.Damaged → ¬ HoldsOlder office layout old.now.trees)
   pub survives : Survives old new (λ db. HasOlder layout old.now → Takes office layout old.now.trees db)

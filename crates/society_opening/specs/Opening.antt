@@ -110,6 +110,6 @@ pub record Opens (office : Office) (old new : connection.State) (result : Result
   pub taken : connection.HasCleanDisk new → IsTrue old.is_open → (layout : OlderLayout) → HasOlder layout old.committed → OnOk result (IsTakenOver office layout old.committed new)
   pub known : connection.HasCleanDisk new → IsTrue old.is_open → OnOk result (IsOpenable old.committed)
   pub unchanged : connection.HasCleanDisk new → OnErr result (ShowsAs old.committed new)
-  pub told : connection.HasCleanDisk new → IsTrue old.is_open → IfErr result (TellsDatabase office old.committed)
-  pub failed : connection.HasCleanDisk new → IsTrue old.is_open → IfErr result (λ e. e ≡ fault.Store → MayFail old new)
+  pub err : connection.HasCleanDisk new → IsTrue old.is_open → IfErr result (TellsDatabase office old.committed)
+  pub medium : connection.HasCleanDisk new → IsTrue old.is_open → IfErr result (λ e. e ≡ fault.Store → MayFail old new)
   pub crash : SurvivesOpening office old new

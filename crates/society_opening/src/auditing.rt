@@ -60,9 +60,9 @@ pub fn audit_existing<S: Alter>(
 ) -> Result<Connection<S>, (OpenFault, Connection<S>)>
     requires { connection.in_transaction ≡ false }
     ensures sound { IfOk result (λ c. between S.Store connection c (FindsSoundly office.now)) }
-    ensures told { IfErr result (λ e. between S.Store connection e.1 (TellsCommitted office.now e.0)) }
+    ensures err { IfErr result (λ e. between S.Store connection e.1 (TellsCommitted office.now e.0)) }
     ensures empty { IsTrue (state S.Store connection).is_open → IsBare (state S.Store connection).committed → IsErrAnd result (λ e. e.0 ≡ Empty) }
-    ensures failed { IfErr result (λ e. between S.Store connection e.1 (FailsByStore e.0)) }
+    ensures medium { IfErr result (λ e. between S.Store connection e.1 (FailsByStore e.0)) }
     ensures unchanged { IfErr result (λ e. between S.Store connection e.1 ShowsCommitted) }
     ensures idle { MatchResult result (λ c. c.in_transaction ≡ false) (λ e. e.1.in_transaction ≡ false) }
     ensures crash { MatchResult result (λ c. between S.Store connection c Survives (λ _. ⊥)) (λ e. between S.Store connection e.1 Survives (λ _. ⊥)) }

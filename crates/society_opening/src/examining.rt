@@ -26,7 +26,7 @@ use std::alloc::Global;
 // That the rows of offices are the one row of this office under a layout; `Schema` where it cannot be read.
 fn check_office(rows: &[Row], office: &Office, layout: u32) -> Result<(), OpenFault>
     ensures same { IfOk result (λ _. rows.now ≡ office_row_under layout office.now ∷ []) }
-    ensures told { IfErr result (TellsOffice layout office.now rows.now) }
+    ensures err { IfErr result (TellsOffice layout office.now rows.now) }
     ensures other { IfErr result (λ e. e ≢ Damaged) }
     ensures there { IfErr result (λ e. e ≢ Empty) }
     ensures read { IfErr result (λ e. e ≢ fault.Store) }
@@ -55,8 +55,8 @@ pub(crate) fn office_agrees<S: Alter>(
 ) -> Result<(), OpenFault>
     ensures same_reference { tx.new.conn.ghost_name ≡ tx.old.conn.ghost_name }
     ensures finds { within S.Store tx.old tx.new (DoesOver (HasTable OfficeTable)) result (IsOffice office.now number) }
-    ensures told { within S.Store tx.old tx.new (TellsIn (HasTable OfficeTable) number office.now) result }
-    ensures failed { within S.Store tx.old tx.new (FailsIn (HasTable OfficeTable)) result }
+    ensures err { within S.Store tx.old tx.new (TellsIn (HasTable OfficeTable) number office.now) result }
+    ensures medium { within S.Store tx.old tx.new (FailsIn (HasTable OfficeTable)) result }
     ensures other { IfErr result (λ e. e ≢ Damaged) }
     ensures there { IfErr result (λ e. e ≢ Empty) }
 {
@@ -107,9 +107,9 @@ pub(crate) fn examine_office<S: Alter>(
 ) -> Result<(), OpenFault>
     ensures same_reference { tx.new.conn.ghost_name ≡ tx.old.conn.ghost_name }
     ensures does { within S.Store tx.old tx.new (DoesOver HasLayout) result (λ before after _. (after ≡ before) × HoldsOwnBook office.now before.trees) }
-    ensures told { within S.Store tx.old tx.new (TellsIn HasLayout 3 office.now) result }
+    ensures err { within S.Store tx.old tx.new (TellsIn HasLayout 3 office.now) result }
     ensures damaged { within S.Store tx.old tx.new (DeniesIn HasLayout (HoldsOwnBook office.now)) result }
-    ensures failed { within S.Store tx.old tx.new (FailsIn HasLayout) result }
+    ensures medium { within S.Store tx.old tx.new (FailsIn HasLayout) result }
     ensures there { IfErr result (λ e. e ≢ Empty) }
 {
     office_agrees(tx, office, LAYOUT)?;

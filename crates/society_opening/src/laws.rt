@@ -20,7 +20,7 @@ pub fn reopen<S: Alter>(
 ) -> Result<Tables<S>, (OpenFault, Connection<S>)>
     ensures office { IfOk result (λ t. (⟦<Tables<S> as Store>⟧.state t).office ≡ (⟦<Tables<S> as Store>⟧.state tables).office) }
     ensures kept { IsTrue (⟦<Tables<S> as Store>⟧.state tables).is_clean → IfOk result (λ t. FindsBook (⟦<Tables<S> as Store>⟧.state tables) (⟦<Tables<S> as Store>⟧.state t)) }
-    ensures told { IsTrue (⟦<Tables<S> as Store>⟧.state tables).is_clean → IfErr result (λ e. HasCleanDisk (state S.Store e.1) → IsOutside e.0) }
+    ensures err { IsTrue (⟦<Tables<S> as Store>⟧.state tables).is_clean → IfErr result (λ e. HasCleanDisk (state S.Store e.1) → IsOutside e.0) }
 {
     let office = *tables.office();
     open(alloc, tables.into_connection(), &office)
@@ -28,7 +28,7 @@ pub fn reopen<S: Alter>(
 
 /// Opens the database that a crash leaves of a store, in a connection of its own. Of a clean store that database has layout 3 and
 /// holds a book of the office (`taken`), and the opening finds the store's book, so all that was answered as accepted (`kept`); a
-/// fault is `Memory` or `Store` then (`told`). Of any store, where what is left has layout 3, the opening finds a book that a
+/// fault is `Memory` or `Store` then (`err`). Of any store, where what is left has layout 3, the opening finds a book that a
 /// crash may leave (`left`).
 pub fn open_after_crash<S: Alter, T: Alter>(
     alloc: Global,
@@ -39,7 +39,7 @@ pub fn open_after_crash<S: Alter, T: Alter>(
     ensures office { IfOk result (λ t. (⟦<Tables<T> as Store>⟧.state t).office ≡ (⟦<Tables<S> as Store>⟧.state tables.now).office) }
     ensures taken { AfterCrash (state S.Store tables.now.conn) (state T.Store found) (HoldsOffice tables.now.office (state T.Store found).committed) }
     ensures kept { AfterCrash (state S.Store tables.now.conn) (state T.Store found) (IfOk result (λ t. FindsBook (⟦<Tables<S> as Store>⟧.state tables.now) (⟦<Tables<T> as Store>⟧.state t))) }
-    ensures told { AfterCrash (state S.Store tables.now.conn) (state T.Store found) (IfErr result (λ e. HasCleanDisk (state T.Store e.1) → IsOutside e.0)) }
+    ensures err { AfterCrash (state S.Store tables.now.conn) (state T.Store found) (IfErr result (λ e. HasCleanDisk (state T.Store e.1) → IsOutside e.0)) }
     ensures left { AfterAnyCrash (state S.Store tables.now.conn) (state T.Store found) (IfOk result (λ t. FindsLeft (⟦<Tables<S> as Store>⟧.state tables.now) (⟦<Tables<T> as Store>⟧.state t))) }
 {
     // A list of tables is that of one schema at most, and both connections obey theirs.

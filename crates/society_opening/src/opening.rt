@@ -47,8 +47,8 @@ fn begin<S: Alter>(conn: &mut Idle<S>, office: &Office) -> Result<(), OpenFault>
     requires bare { IsBare (state S.Store conn.old).now }
     ensures created { between S.Store conn.old conn.new (λ old new. HasCleanDisk new → OnOk result (Begins (office_row office.now) new.now × (new.now ≡ new.committed))) }
     ensures neither { between S.Store conn.old conn.new (λ old new. HasCleanDisk new → OnErr result (ShowsAs old.committed new)) }
-    ensures told { IfErr result IsOutside }
-    ensures failed { between S.Store conn.old conn.new (λ old new. HasCleanDisk new → IfErr result (λ e. e ≡ fault.Store → MayFail old new)) }
+    ensures err { IfErr result IsOutside }
+    ensures medium { between S.Store conn.old conn.new (λ old new. HasCleanDisk new → IfErr result (λ e. e ≡ fault.Store → MayFail old new)) }
     ensures crash { between S.Store conn.old conn.new Survives (IsNewBook (office_row office.now)) }
 {
     let row = OfficeRow {
@@ -105,11 +105,11 @@ pub fn open<S: Alter>(
     ensures audited { IfOk result (λ t. between S.Store connection t.conn (AuditsOffice office.now)) }
     ensures taken { IfOk result (λ t. between S.Store connection t.conn (TakesCommitted office.now)) }
     ensures known { IfOk result (λ t. between S.Store connection t.conn WasOpenable) }
-    ensures told { IfErr result (λ e. between S.Store connection e.1 (TellsCommitted office.now e.0)) }
+    ensures err { IfErr result (λ e. between S.Store connection e.1 (TellsCommitted office.now e.0)) }
     ensures begins { IfErr result (λ e. e.0 ≢ Empty) }
     ensures opens { IfErr result (λ e. SparesCommitted office.now (state S.Store connection) (state S.Store e.1) e.0) }
     ensures takes { IfErr result (λ e. SparesOlder office.now (state S.Store connection) (state S.Store e.1) e.0) }
-    ensures failed { IfErr result (λ e. between S.Store connection e.1 (FailsByStore e.0)) }
+    ensures medium { IfErr result (λ e. between S.Store connection e.1 (FailsByStore e.0)) }
     ensures unchanged { IfErr result (λ e. between S.Store connection e.1 ShowsCommitted) }
     ensures idle { IfErr result (λ e. e.1.in_transaction ≡ false) }
     ensures crash { MatchResult result (λ t. between S.Store connection t.conn (SurvivesOpening office.now)) (λ e. between S.Store connection e.1 (SurvivesOpening office.now)) }
@@ -137,11 +137,11 @@ pub fn open_existing<S: Alter>(
     ensures uncounted { IfOk result (λ t. (⟦<Tables<S> as Store>⟧.state t).failures ≡ 0) }
     ensures empty { IsTrue (state S.Store connection).is_open → IsBare (state S.Store connection).committed → IsErrAnd result (λ e. (e.0 ≡ Empty) × (e.1 ≡ connection)) }
     ensures audited { IfOk result (λ t. FindsOffice office.now (state S.Store connection) (state S.Store t.conn)) }
-    ensures told { IfErr result (λ e. between S.Store connection e.1 (TellsCommitted office.now e.0)) }
+    ensures err { IfErr result (λ e. between S.Store connection e.1 (TellsCommitted office.now e.0)) }
     ensures opens { IfErr result (λ e. SparesCommitted office.now (state S.Store connection) (state S.Store e.1) e.0) }
     ensures takes { IfErr result (λ e. SparesOlder office.now (state S.Store connection) (state S.Store e.1) e.0) }
     ensures untouched { IfErr result (λ e. e.0 ≡ Empty → e.1 ≡ connection) }
-    ensures failed { IfErr result (λ e. between S.Store connection e.1 (FailsByStore e.0)) }
+    ensures medium { IfErr result (λ e. between S.Store connection e.1 (FailsByStore e.0)) }
     ensures unchanged { IfErr result (λ e. between S.Store connection e.1 ShowsCommitted) }
     ensures idle { IfErr result (λ e. e.1.in_transaction ≡ false) }
     ensures crash { MatchResult result (λ t. between S.Store connection t.conn (SurvivesTaking office.now)) (λ e. between S.Store connection e.1 (SurvivesTaking office.now)) }

@@ -7,7 +7,7 @@ use society_rows::RowFault;
 
 /// What a fault of a reading is told as: want of memory, or else that the database failed.
 pub(crate) fn fault_of_reading(fault: RowFault) -> AuditFault
-    ensures told { result ≡ reading_fault_by fault }
+    ensures value { result ≡ reading_fault_by fault }
 {
     match fault {
         RowFault::Memory => AuditFault::Memory,

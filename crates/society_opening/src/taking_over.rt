@@ -60,9 +60,9 @@ pub(crate) fn take_office<S: Alter>(
 ) -> Result<(), OpenFault>
     ensures same_reference { tx.new.conn.ghost_name ≡ tx.old.conn.ghost_name }
     ensures does { within S.Store tx.old tx.new (DoesOver (HasOlder layout)) result (TakesOffice office.now layout) }
-    ensures told { within S.Store tx.old tx.new (TellsIn (HasOlder layout) (number_of layout) office.now) result }
+    ensures err { within S.Store tx.old tx.new (TellsIn (HasOlder layout) (number_of layout) office.now) result }
     ensures damaged { within S.Store tx.old tx.new (DeniesIn (HasOlder layout) (HoldsOlder office.now layout)) result }
-    ensures failed { within S.Store tx.old tx.new (FailsIn (HasOlder layout)) result }
+    ensures medium { within S.Store tx.old tx.new (FailsIn (HasOlder layout)) result }
     ensures there { IfErr result (λ e. e ≢ Empty) }
 {
     office_agrees(tx, office, layout.number())?;
@@ -79,7 +79,7 @@ pub(crate) fn take_over<S: Alter>(
     layout: OlderLayout,
 ) -> Result<(), OpenFault>
     ensures takes { between S.Store conn.old conn.new (TakesOver office.now layout) result }
-    ensures failed { between S.Store conn.old conn.new (FailsTaking (HasOlder layout)) result }
+    ensures medium { between S.Store conn.old conn.new (FailsTaking (HasOlder layout)) result }
     ensures there { IfErr result (λ e. e ≢ Empty) }
 {
     conn.see_last_commit();

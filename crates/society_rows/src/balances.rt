@@ -34,7 +34,7 @@ impl<'a> BalanceRow<'a> {
         ensures value { IfOk result (λ x. balance_values x ≡ row.now) }
         ensures read { IsRead balance_forms row.now result }
         ensures range { IfOk result (λ x. FitsSigned w64 x.units) }
-        ensures fault { IfErr result (λ e. e ≡ Unread) }
+        ensures err { IfErr result (λ e. e ≡ Unread) }
     {
         if row.column_count() != 2 {
             return Err(RowFault::Unread);
@@ -62,7 +62,7 @@ pub fn add_balance<S: Alter>(
     ensures written { within S.Store tx.old tx.new Writes result
         (Adds balances (balance_values row.now ∷ [])) }
     ensures whole { within S.Store tx.old tx.new IsAllOrNothing result }
-    ensures told { within S.Store tx.old tx.new OnlyFails result }
+    ensures err { within S.Store tx.old tx.new OnlyFails result }
     ensures blamed { within S.Store tx.old tx.new BlamesMedium result }
 {
     add(tx, NewRows::Balance(row))
@@ -74,7 +74,7 @@ fn put_balance<S: Alter>(tx: &mut Transaction<'_, S>, row: &BalanceRow<'_>) -> R
     ensures written { within S.Store tx.old tx.new Writes result
         (Puts balances (balance_values row.now)) }
     ensures whole { within S.Store tx.old tx.new IsAllOrNothing result }
-    ensures told { within S.Store tx.old tx.new OnlyFails result }
+    ensures err { within S.Store tx.old tx.new OnlyFails result }
 {
     run(
         tx,

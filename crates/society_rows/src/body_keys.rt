@@ -36,7 +36,7 @@ pub fn all_keys<S: Alter>(
     ensures same_reference { tx.new.conn.ghost_name ≡ tx.old.conn.ghost_name }
     ensures read { within S.Store tx.old tx.new Reads result
         (λ db rows. ListsKeys (body_table table) (λ _. true) 2 db rows.items) }
-    ensures told { within S.Store tx.old tx.new OnlyFails result }
+    ensures err { within S.Store tx.old tx.new OnlyFails result }
     ensures medium { within S.Store tx.old tx.new ErrsByMedium result }
 {
     select(tx, keys(table), &[])

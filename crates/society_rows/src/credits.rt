@@ -33,7 +33,7 @@ impl<'a> CreditRow<'a> {
     pub fn from_row(row: &'a Row) -> Result<CreditRow<'a>, RowFault>
         ensures value { IfOk result (λ x. credit_values x ≡ row.now) }
         ensures read { IsRead credit_forms row.now result }
-        ensures fault { IfErr result (λ e. e ≡ Unread) }
+        ensures err { IfErr result (λ e. e ≡ Unread) }
     {
         if row.column_count() != 5 {
             return Err(RowFault::Unread);
@@ -85,7 +85,7 @@ pub fn add_credits<S: Alter>(
         (Adds credits_table (map credit_values rows.now)) }
     ensures left { within S.Store tx.old tx.new LeavesFirst result
         (λ count. Adds credits_table (map credit_values (take count rows.now))) }
-    ensures told { within S.Store tx.old tx.new (OnlyFailsInside HasLayout) result }
+    ensures err { within S.Store tx.old tx.new (OnlyFailsInside HasLayout) result }
     ensures blamed { within S.Store tx.old tx.new BlamesMedium result }
 {
     add_all(tx, rows)

@@ -22,7 +22,7 @@ pub trait RowFold {
     /// Takes a row. An error ends the reading.
     fn take(&mut self, row: &Row) -> Result<(), RowFault>
         ensures taken { OnOk result (self.new ≡ step self.old row.now) }
-        ensures told { IfErr result (refusal self.old row.now) };
+        ensures err { IfErr result (refusal self.old row.now) };
 }
 
 /// Goes over the transmissions of a sender from a number upwards, up to the first number that is not there, each by its
@@ -36,7 +36,7 @@ pub fn fold_run<S: Alter, F: RowFold>(
     ensures same_reference { tx.new.conn.ghost_name ≡ tx.old.conn.ghost_name }
     ensures taken { within S.Store tx.old tx.new ReadsInside result
         (λ db _. HasTaken F.step (IsRun sender.now first db) into.old into.new) }
-    ensures told { IfErr result
+    ensures err { IfErr result
         (within S.Store tx.old tx.new (StopsRun F.step F.refusal) sender.now first into.old) }
     ensures medium { within S.Store tx.old tx.new (λ old new. ErrsByMedium old new result ⊎ IfErr result (λ fault.
         RefusesRow F.step F.refusal (AreFirstOfRun old new sender.now first) into.old fault ⊎ ((fault ≡ Unread) × IsNoRun old new sender.now first))) }

@@ -31,7 +31,7 @@ impl<'a> FrontRow<'a> {
     pub fn from_row(row: &'a Row) -> Result<FrontRow<'a>, RowFault>
         ensures value { IfOk result (λ x. front_values x ≡ row.now) }
         ensures read { IsRead front_forms row.now result }
-        ensures fault { IfErr result (λ e. e ≡ Unread) }
+        ensures err { IfErr result (λ e. e ≡ Unread) }
     {
         if row.column_count() != 3 {
             return Err(RowFault::Unread);
@@ -61,7 +61,7 @@ pub fn put_front<S: Alter>(tx: &mut Transaction<'_, S>, row: &FrontRow<'_>) -> R
     ensures written { within S.Store tx.old tx.new Writes result
         (Puts fronts (front_values row.now)) }
     ensures whole { within S.Store tx.old tx.new IsAllOrNothing result }
-    ensures told { within S.Store tx.old tx.new OnlyFails result }
+    ensures err { within S.Store tx.old tx.new OnlyFails result }
     ensures blamed { within S.Store tx.old tx.new BlamesMedium result }
 {
     run(

@@ -47,7 +47,7 @@ pub(crate) fn make_tables<S: Alter>(
     ensures same_reference { tx.new.conn.ghost_name ≡ tx.old.conn.ghost_name }
     ensures made { within S.Store tx.old tx.new (WritesOver (HasFirst from)) result
         (Extends from) }
-    ensures told { within S.Store tx.old tx.new (OnlyFailsInside (HasFirst from)) result }
+    ensures err { within S.Store tx.old tx.new (OnlyFailsInside (HasFirst from)) result }
     ensures blamed { within S.Store tx.old tx.new (BlamesMediumOver (HasFirst from)) result }
 {
     for at in from..texts.len() {
@@ -61,7 +61,7 @@ pub(crate) fn lay_out<S: Alter>(tx: &mut Transaction<'_, S>) -> Result<(), RowFa
     ensures same_reference { tx.new.conn.ghost_name ≡ tx.old.conn.ghost_name }
     ensures made { within S.Store tx.old tx.new (WritesOver IsBare) result
         (λ _. IsEmptyBook) }
-    ensures told { within S.Store tx.old tx.new (OnlyFailsInside IsBare) result }
+    ensures err { within S.Store tx.old tx.new (OnlyFailsInside IsBare) result }
     ensures blamed { within S.Store tx.old tx.new (BlamesMediumOver IsBare) result }
 {
     make_tables(tx, &TABLES, 0)
@@ -72,7 +72,7 @@ fn begin_book<S: Alter>(tx: &mut Transaction<'_, S>, office: &OfficeRow<'_>) -> 
     ensures same_reference { tx.new.conn.ghost_name ≡ tx.old.conn.ghost_name }
     ensures begun { within S.Store tx.old tx.new (WritesOver IsBare) result
         (λ _. Begins (office_values office.now)) }
-    ensures told { within S.Store tx.old tx.new (OnlyFailsInside IsBare) result }
+    ensures err { within S.Store tx.old tx.new (OnlyFailsInside IsBare) result }
     ensures blamed { within S.Store tx.old tx.new (BlamesMediumOver IsBare) result }
 {
     lay_out(tx)?;
@@ -86,7 +86,7 @@ pub fn create<S: Alter>(conn: &mut Idle<S>, office: &OfficeRow<'_>) -> Result<()
     ensures created { between S.Store conn.old conn.new (λ old new. HasCleanDisk new → OnOk result (Begins (office_values office.now) new.now × (new.now ≡ new.committed))) }
     ensures neither { between S.Store conn.old conn.new (λ old new. HasCleanDisk new → IsTrue new.is_open → OnErr result ((new.now ≡ old.committed) × (new.committed ≡ old.committed))) }
     ensures crash { between S.Store conn.old conn.new Survives (IsNewBook (office_values office.now)) }
-    ensures told { HasCleanDisk (state S.Store conn.new) → IfErr result IsFailure }
+    ensures err { HasCleanDisk (state S.Store conn.new) → IfErr result IsFailure }
     ensures blamed { between S.Store conn.old conn.new (λ old new. HasCleanDisk new → TellsOfMedium old new result) }
 {
     let mut tx = conn.connection.transaction();

@@ -36,7 +36,7 @@ fn senders(table: LineTable) -> &'static str
 pub fn owners<S: Alter>(tx: &mut Transaction<'_, S>, table: LineTable) -> Result<Vec<Row>, RowFault>
     ensures same_reference { tx.new.conn.ghost_name ≡ tx.old.conn.ghost_name }
     ensures read { within S.Store tx.old tx.new Reads result (λ db rows. ListsSenders table db rows.items) }
-    ensures told { within S.Store tx.old tx.new OnlyFails result }
+    ensures err { within S.Store tx.old tx.new OnlyFails result }
     ensures medium { within S.Store tx.old tx.new ErrsByMedium result }
 {
     select(tx, senders(table), &[])

@@ -28,7 +28,7 @@ impl MechanicalPoolRow {
     pub fn from_row(row: &Row) -> Result<MechanicalPoolRow, RowFault>
         ensures value { IfOk result (λ x. mechanical_pool_values x ≡ row.now) }
         ensures read { IsRead mechanical_pool_forms row.now result }
-        ensures fault { IfErr result (λ e. e ≡ Unread) }
+        ensures err { IfErr result (λ e. e ≡ Unread) }
     {
         if row.column_count() != 1 {
             return Err(RowFault::Unread);
@@ -55,7 +55,7 @@ pub fn add_mechanical_pool<S: Alter>(
     ensures written { within S.Store tx.old tx.new Writes result
         (Adds mechanical_pools (mechanical_pool_values row.now ∷ [])) }
     ensures whole { within S.Store tx.old tx.new IsAllOrNothing result }
-    ensures told { within S.Store tx.old tx.new OnlyFails result }
+    ensures err { within S.Store tx.old tx.new OnlyFails result }
 {
     add(tx, NewRows::MechanicalPool(row))
 }

@@ -109,7 +109,7 @@ fn add_by<S: Alter>(
     ensures written { within S.Store tx.old tx.new Writes result
         (Adds (table_called (added rows.entry).table) (added rows.entry).rows) }
     ensures whole { within S.Store tx.old tx.new IsAllOrNothing result }
-    ensures told { within S.Store tx.old tx.new OnlyFails result }
+    ensures err { within S.Store tx.old tx.new OnlyFails result }
     ensures blamed { within S.Store tx.old tx.new BlamesMedium result }
 {
     run(tx, insert_of(rows), values)
@@ -121,7 +121,7 @@ pub(crate) fn add<S: Alter>(tx: &mut Transaction<'_, S>, rows: NewRows<'_>) -> R
     ensures written { within S.Store tx.old tx.new Writes result
         (Adds (table_called (added rows.entry).table) (added rows.entry).rows) }
     ensures whole { within S.Store tx.old tx.new IsAllOrNothing result }
-    ensures told { within S.Store tx.old tx.new OnlyFails result }
+    ensures err { within S.Store tx.old tx.new OnlyFails result }
     ensures blamed { within S.Store tx.old tx.new BlamesMedium result }
 {
     match rows {

@@ -60,7 +60,7 @@ pub fn are_numbered<S: Alter>(
     ensures same_reference { tx.new.conn.ghost_name ≡ tx.old.conn.ghost_name }
     ensures read { within S.Store tx.old tx.new (ReadsOver (HasTable table)) result
         (λ db yes. IsTrue yes ↔ AreNumbered (table_called table) db) }
-    ensures told { within S.Store tx.old tx.new (OnlyFailsOver (HasTable table)) result }
+    ensures err { within S.Store tx.old tx.new (OnlyFailsOver (HasTable table)) result }
     ensures medium { within S.Store tx.old tx.new (ErrsByMediumOver (HasTable table)) result }
 {
     let rows = select(tx, rowids(table), &[])?;

@@ -32,7 +32,7 @@ impl<'a> OfficeRow<'a> {
     pub fn from_row(row: &'a Row) -> Result<OfficeRow<'a>, RowFault>
         ensures value { IfOk result (λ x. office_values x ≡ row.now) }
         ensures read { IsRead office_forms row.now result }
-        ensures fault { IfErr result (λ e. e ≡ Unread) }
+        ensures err { IfErr result (λ e. e ≡ Unread) }
     {
         OfficeRow::from_row_under(row, LAYOUT)
     }
@@ -42,7 +42,7 @@ impl<'a> OfficeRow<'a> {
     pub fn from_row_under(row: &'a Row, layout: u32) -> Result<OfficeRow<'a>, RowFault>
         ensures value { IfOk result (λ x. office_values_under layout x ≡ row.now) }
         ensures read { IsRead (office_forms_under layout) row.now result }
-        ensures fault { IfErr result (λ e. e ≡ Unread) }
+        ensures err { IfErr result (λ e. e ≡ Unread) }
     {
         if row.column_count() != 5 {
             return Err(RowFault::Unread);
@@ -81,7 +81,7 @@ pub(crate) fn add_office<S: Alter>(
     ensures same_reference { tx.new.conn.ghost_name ≡ tx.old.conn.ghost_name }
     ensures written { within S.Store tx.old tx.new Writes result
         (Adds office (office_values row.now ∷ [])) }
-    ensures told { within S.Store tx.old tx.new OnlyFails result }
+    ensures err { within S.Store tx.old tx.new OnlyFails result }
     ensures blamed { within S.Store tx.old tx.new BlamesMedium result }
 {
     add(tx, NewRows::Office(row))

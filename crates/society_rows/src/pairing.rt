@@ -38,7 +38,7 @@ fn add_part<S: Alter, R: PairedRow>(tx: &mut Transaction<'_, S>, part: &[R]) -> 
     ensures same_reference { tx.new.conn.ghost_name ≡ tx.old.conn.ghost_name }
     ensures written { within S.Store tx.old tx.new Writes result (Adds R.table (map R.values part.now)) }
     ensures whole { within S.Store tx.old tx.new FailsWhole result }
-    ensures told { within S.Store tx.old tx.new OnlyFails result }
+    ensures err { within S.Store tx.old tx.new OnlyFails result }
     ensures blamed { within S.Store tx.old tx.new BlamesMedium result }
 {
     match part {
@@ -56,7 +56,7 @@ pub(crate) fn add_all<S: Alter, R: PairedRow>(
     ensures same_reference { tx.new.conn.ghost_name ≡ tx.old.conn.ghost_name }
     ensures written { within S.Store tx.old tx.new Writes result (Adds R.table (map R.values rows.now)) }
     ensures left { within S.Store tx.old tx.new LeavesFirst result (λ count. Adds R.table (map R.values (take count rows.now))) }
-    ensures told { within S.Store tx.old tx.new (OnlyFailsInside HasLayout) result }
+    ensures err { within S.Store tx.old tx.new (OnlyFailsInside HasLayout) result }
     ensures blamed { within S.Store tx.old tx.new BlamesMedium result }
 {
     // Two rows a statement have nearly all that many would gain, for one more text that is kept compiled.

@@ -31,7 +31,7 @@ impl<'a> PoolCutRow<'a> {
     pub fn from_row(row: &'a Row) -> Result<PoolCutRow<'a>, RowFault>
         ensures value { IfOk result (λ x. pool_cut_values x ≡ row.now) }
         ensures read { IsRead pool_cut_forms row.now result }
-        ensures fault { IfErr result (λ e. e ≡ Unread) }
+        ensures err { IfErr result (λ e. e ≡ Unread) }
     {
         if row.column_count() != 3 {
             return Err(RowFault::Unread);
@@ -79,7 +79,7 @@ pub fn add_pool_cuts<S: Alter>(
         (Adds pool_cuts (map pool_cut_values rows.now)) }
     ensures left { within S.Store tx.old tx.new LeavesFirst result
         (λ count. Adds pool_cuts (map pool_cut_values (take count rows.now))) }
-    ensures told { within S.Store tx.old tx.new (OnlyFailsInside HasLayout) result }
+    ensures err { within S.Store tx.old tx.new (OnlyFailsInside HasLayout) result }
 {
     add_all(tx, rows)
 }

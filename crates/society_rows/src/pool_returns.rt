@@ -31,7 +31,7 @@ impl<'a> PoolReturnRow<'a> {
     pub fn from_row(row: &'a Row) -> Result<PoolReturnRow<'a>, RowFault>
         ensures value { IfOk result (λ x. pool_return_values x ≡ row.now) }
         ensures read { IsRead pool_return_forms row.now result }
-        ensures fault { IfErr result (λ e. e ≡ Unread) }
+        ensures err { IfErr result (λ e. e ≡ Unread) }
     {
         if row.column_count() != 3 {
             return Err(RowFault::Unread);
@@ -79,7 +79,7 @@ pub fn add_pool_returns<S: Alter>(
         (Adds pool_returns (map pool_return_values rows.now)) }
     ensures left { within S.Store tx.old tx.new LeavesFirst result
         (λ count. Adds pool_returns (map pool_return_values (take count rows.now))) }
-    ensures told { within S.Store tx.old tx.new (OnlyFailsInside HasLayout) result }
+    ensures err { within S.Store tx.old tx.new (OnlyFailsInside HasLayout) result }
 {
     add_all(tx, rows)
 }

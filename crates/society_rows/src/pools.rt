@@ -31,7 +31,7 @@ impl PoolRow {
         ensures value { IfOk result (λ x. pool_values x ≡ row.now) }
         ensures range { IfOk result (λ x. FitsSigned w64 x.amount) }
         ensures read { IsRead pool_forms row.now result }
-        ensures fault { IfErr result (λ e. e ≡ Unread) }
+        ensures err { IfErr result (λ e. e ≡ Unread) }
     {
         if row.column_count() != 2 {
             return Err(RowFault::Unread);
@@ -56,7 +56,7 @@ pub fn add_pool<S: Alter>(tx: &mut Transaction<'_, S>, row: &PoolRow) -> Result<
     ensures written { within S.Store tx.old tx.new Writes result
         (Adds pools (pool_values row.now ∷ [])) }
     ensures whole { within S.Store tx.old tx.new IsAllOrNothing result }
-    ensures told { within S.Store tx.old tx.new OnlyFails result }
+    ensures err { within S.Store tx.old tx.new OnlyFails result }
 {
     add(tx, NewRows::Pool(row))
 }

@@ -137,7 +137,7 @@ fn answer_by<S: Alter>(
     ensures same_reference { tx.new.conn.ghost_name ≡ tx.old.conn.ghost_name }
     ensures read { within S.Store tx.old tx.new Reads result
         (λ db rows. RowsAnswer question.entry db rows.items) }
-    ensures told { within S.Store tx.old tx.new OnlyFails result }
+    ensures err { within S.Store tx.old tx.new OnlyFails result }
     ensures medium { within S.Store tx.old tx.new ErrsByMedium result }
 {
     select(tx, query_of(question), params)
@@ -151,7 +151,7 @@ pub fn answer<S: Alter>(
     ensures same_reference { tx.new.conn.ghost_name ≡ tx.old.conn.ghost_name }
     ensures read { within S.Store tx.old tx.new Reads result
         (λ db rows. RowsAnswer question.entry db rows.items) }
-    ensures told { within S.Store tx.old tx.new OnlyFails result }
+    ensures err { within S.Store tx.old tx.new OnlyFails result }
     ensures medium { within S.Store tx.old tx.new ErrsByMedium result }
 {
     match question {
@@ -195,7 +195,7 @@ pub fn answer<S: Alter>(
 pub fn ask<S: Alter>(conn: &mut Idle<S>, question: Question<'_>) -> Result<Vec<Row>, RowFault>
     ensures asked { between S.Store conn.old conn.new Asks result
         (λ db rows. RowsAnswer question.entry db rows.items) }
-    ensures told { between S.Store conn.old conn.new OnlyFails result }
+    ensures err { between S.Store conn.old conn.new OnlyFails result }
 {
     conn.see_last_commit();
     let mut tx = conn.connection.transaction();

@@ -16,7 +16,7 @@ use sqlite::{Alter, Transaction};
 fn rename<S: Alter>(tx: &mut Transaction<'_, S>) -> Result<(), RowFault>
     ensures same_reference { tx.new.conn.ghost_name ≡ tx.old.conn.ghost_name }
     ensures renamed { within S.Store tx.old tx.new Writes result Renames }
-    ensures told { within S.Store tx.old tx.new OnlyFails result }
+    ensures err { within S.Store tx.old tx.new OnlyFails result }
     ensures blamed { within S.Store tx.old tx.new BlamesMedium result }
 {
     run(tx, "UPDATE office SET layout = ?1", &[LAYOUT.to_sql()])
@@ -31,7 +31,7 @@ pub fn raise_inside<S: Alter>(
     ensures same_reference { tx.new.conn.ghost_name ≡ tx.old.conn.ghost_name }
     ensures raised { within S.Store tx.old tx.new (WritesOver (HasOlder from)) result
         (BecomesNewest from) }
-    ensures told { within S.Store tx.old tx.new (OnlyFailsInside (HasOlder from)) result }
+    ensures err { within S.Store tx.old tx.new (OnlyFailsInside (HasOlder from)) result }
     ensures blamed { within S.Store tx.old tx.new (BlamesMediumOver (HasOlder from)) result }
 {
     make_tables(tx, &TABLES, from.table_count())?;

@@ -17,7 +17,7 @@ use work_ids::Segment;
 pub(crate) fn text(row: &Row, at: usize) -> Result<&[u8], RowFault>
     ensures value { IfOk result (λ t. column row.now at ≡ Text t.now) }
     ensures read { HasForm Words (column row.now at) → IsOk result }
-    ensures fault { IfErr result (λ e. e ≡ Unread) }
+    ensures err { IfErr result (λ e. e ≡ Unread) }
 {
     match row.get_ref(at) {
         Ok(ValueRef::Text(bytes)) => Ok(bytes),
@@ -29,7 +29,7 @@ pub(crate) fn text(row: &Row, at: usize) -> Result<&[u8], RowFault>
 pub(crate) fn bytes(row: &Row, at: usize) -> Result<&[u8], RowFault>
     ensures value { IfOk result (λ b. column row.now at ≡ Blob b.now) }
     ensures read { HasForm Bytes (column row.now at) → IsOk result }
-    ensures fault { IfErr result (λ e. e ≡ Unread) }
+    ensures err { IfErr result (λ e. e ≡ Unread) }
 {
     match row.get_ref(at) {
         Ok(ValueRef::Blob(bytes)) => Ok(bytes),
@@ -41,7 +41,7 @@ pub(crate) fn bytes(row: &Row, at: usize) -> Result<&[u8], RowFault>
 pub(crate) fn whole(row: &Row, at: usize) -> Result<u32, RowFault>
     ensures value { IfOk result (λ n. column row.now at ≡ Int (pos n)) }
     ensures read { HasForm Count (column row.now at) → IsOk result }
-    ensures fault { IfErr result (λ e. e ≡ Unread) }
+    ensures err { IfErr result (λ e. e ≡ Unread) }
 {
     match row.get_ref(at) {
         Ok(ValueRef::Int(n)) => u32::try_from(n).map_err(|_| RowFault::Unread),
@@ -54,7 +54,7 @@ pub(crate) fn integer(row: &Row, at: usize) -> Result<i64, RowFault>
     ensures value { IfOk result (λ n. column row.now at ≡ Int n) }
     ensures read { HasForm Amount (column row.now at) → IsOk result }
     ensures range { IfOk result (λ n. FitsSigned w64 n) }
-    ensures fault { IfErr result (λ e. e ≡ Unread) }
+    ensures err { IfErr result (λ e. e ≡ Unread) }
 {
     match row.get_ref(at) {
         Ok(ValueRef::Int(n)) => Ok(n),
@@ -67,7 +67,7 @@ pub(crate) fn segment(row: &Row, at: usize) -> Result<Segment, RowFault>
     ensures value { IfOk result (λ s. column row.now at ≡ Int (segment_column (index_of s))) }
     ensures read { HasForm SegmentForm (column row.now at) → IsOk result }
     ensures range { IfOk result (λ s. index_of s ≤ 100) }
-    ensures fault { IfErr result (λ e. e ≡ Unread) }
+    ensures err { IfErr result (λ e. e ≡ Unread) }
 {
     let number = integer(row, at)?;
     if number == -1 {

@@ -33,7 +33,7 @@ impl<'a> RecordingRow<'a> {
     pub fn from_row(row: &'a Row) -> Result<RecordingRow<'a>, RowFault>
         ensures value { IfOk result (λ x. recording_values x ≡ row.now) }
         ensures read { IsRead recording_forms row.now result }
-        ensures fault { IfErr result (λ e. e ≡ Unread) }
+        ensures err { IfErr result (λ e. e ≡ Unread) }
     {
         if row.column_count() != 4 {
             return Err(RowFault::Unread);
@@ -83,7 +83,7 @@ pub fn add_recordings<S: Alter>(
         (Adds recordings (map recording_values rows.now)) }
     ensures left { within S.Store tx.old tx.new LeavesFirst result
         (λ count. Adds recordings (map recording_values (take count rows.now))) }
-    ensures told { within S.Store tx.old tx.new (OnlyFailsInside HasLayout) result }
+    ensures err { within S.Store tx.old tx.new (OnlyFailsInside HasLayout) result }
     ensures blamed { within S.Store tx.old tx.new BlamesMedium result }
 {
     add_all(tx, rows)
@@ -97,7 +97,7 @@ pub fn sender_recordings<S: Alter>(
     ensures same_reference { tx.new.conn.ghost_name ≡ tx.old.conn.ghost_name }
     ensures read { within S.Store tx.old tx.new Reads result
         (λ db rows. Lists recordings (has_key (Text sender.now ∷ [])) 4 db rows.items) }
-    ensures told { within S.Store tx.old tx.new OnlyFails result }
+    ensures err { within S.Store tx.old tx.new OnlyFails result }
     ensures medium { within S.Store tx.old tx.new ErrsByMedium result }
 {
     answer(tx, Question::SenderRecordings(sender))

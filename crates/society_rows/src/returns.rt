@@ -30,7 +30,7 @@ impl<'a> ReturnRow<'a> {
     pub fn from_row(row: &'a Row) -> Result<ReturnRow<'a>, RowFault>
         ensures value { IfOk result (λ x. return_values x ≡ row.now) }
         ensures read { IsRead return_forms row.now result }
-        ensures fault { IfErr result (λ e. e ≡ Unread) }
+        ensures err { IfErr result (λ e. e ≡ Unread) }
     {
         if row.column_count() != 3 {
             return Err(RowFault::Unread);
@@ -63,7 +63,7 @@ pub fn add_return<S: Alter>(
     ensures written { within S.Store tx.old tx.new Writes result
         (Adds returns (return_values row.now ∷ [])) }
     ensures whole { within S.Store tx.old tx.new IsAllOrNothing result }
-    ensures told { within S.Store tx.old tx.new OnlyFails result }
+    ensures err { within S.Store tx.old tx.new OnlyFails result }
 {
     add(tx, NewRows::Return(row))
 }

@@ -37,7 +37,7 @@ impl<'a> SegmentEndRow<'a> {
         ensures value { IfOk result (λ x. segment_end_values x ≡ row.now) }
         ensures read { IsRead segment_end_forms row.now result }
         ensures range { IfOk result (λ x. index_of x.segment ≤ 100) }
-        ensures fault { IfErr result (λ e. e ≡ Unread) }
+        ensures err { IfErr result (λ e. e ≡ Unread) }
     {
         if row.column_count() != 4 {
             return Err(RowFault::Unread);
@@ -83,7 +83,7 @@ pub fn add_segment_end<S: Alter>(
     ensures written { within S.Store tx.old tx.new Writes result
         (Adds segment_ends (segment_end_values row.now ∷ [])) }
     ensures whole { within S.Store tx.old tx.new IsAllOrNothing result }
-    ensures told { within S.Store tx.old tx.new OnlyFails result }
+    ensures err { within S.Store tx.old tx.new OnlyFails result }
 {
     add(tx, NewRows::SegmentEnd(row))
 }

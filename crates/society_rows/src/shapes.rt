@@ -170,7 +170,7 @@ fn is_unstamped(stamps: &Stamps) -> bool
 }
 
 // The places of what the node at a place compares, if it asks whether two values are the same.
-fn compared(ops: &[Op], at: usize) -> Option<(usize, usize)>
+fn comparison_at(ops: &[Op], at: usize) -> Option<(usize, usize)>
     ensures { MatchOption result ((a : ℕ) → (b : ℕ) → slice_index_or ops.now at (Op.Literal Null) ≢ Op.Binary is_same a b)
         (λ p. slice_index_or ops.now at (Op.Literal Null) ≡ Op.Binary is_same p.0 p.1) }
 {
@@ -214,7 +214,7 @@ fn says_one(ops: &[Op], root: usize) -> bool
     if ops.len() < 2 {
         return false;
     }
-    match compared(ops, root) {
+    match comparison_at(ops, root) {
         Some((first, second)) => is_first(ops, first) && is_number(ops, second),
         None => false,
     }

@@ -81,7 +81,7 @@ pub fn all_rows<S: Alter>(
     ensures same_reference { tx.new.conn.ghost_name ≡ tx.old.conn.ghost_name }
     ensures read { within S.Store tx.old tx.new (ReadsOver (HasTable table)) result
         (λ db rows. ListsAll table db rows.items) }
-    ensures told { within S.Store tx.old tx.new (OnlyFailsOver (HasTable table)) result }
+    ensures err { within S.Store tx.old tx.new (OnlyFailsOver (HasTable table)) result }
     ensures medium { within S.Store tx.old tx.new (ErrsByMediumOver (HasTable table)) result }
 {
     select(tx, listing(table), &[])

@@ -31,7 +31,7 @@ impl<'a> TransmissionRow<'a> {
     pub fn from_row(row: &'a Row) -> Result<TransmissionRow<'a>, RowFault>
         ensures value { IfOk result (λ x. transmission_values x ≡ row.now) }
         ensures read { IsRead transmission_forms row.now result }
-        ensures fault { IfErr result (λ e. e ≡ Unread) }
+        ensures err { IfErr result (λ e. e ≡ Unread) }
     {
         if row.column_count() != 3 {
             return Err(RowFault::Unread);
@@ -68,7 +68,7 @@ impl<'a> TransmissionKeyRow<'a> {
     pub fn from_row(row: &'a Row) -> Result<TransmissionKeyRow<'a>, RowFault>
         ensures value { IfOk result (λ x. transmission_key_values x ≡ row.now) }
         ensures read { IsRead transmission_key_forms row.now result }
-        ensures fault { IfErr result (λ e. e ≡ Unread) }
+        ensures err { IfErr result (λ e. e ≡ Unread) }
     {
         if row.column_count() != 2 {
             return Err(RowFault::Unread);
@@ -89,7 +89,7 @@ pub fn add_transmission<S: Alter>(
     ensures written { within S.Store tx.old tx.new Writes result
         (Adds transmissions (transmission_values row.now ∷ [])) }
     ensures whole { within S.Store tx.old tx.new IsAllOrNothing result }
-    ensures told { within S.Store tx.old tx.new OnlyFails result }
+    ensures err { within S.Store tx.old tx.new OnlyFails result }
 {
     add(tx, NewRows::Transmission(row))
 }
@@ -118,7 +118,7 @@ pub fn add_transmissions<S: Alter>(
         (Adds transmissions (map transmission_values rows.now)) }
     ensures left { within S.Store tx.old tx.new LeavesFirst result
         (λ count. Adds transmissions (map transmission_values (take count rows.now))) }
-    ensures told { within S.Store tx.old tx.new (OnlyFailsInside HasLayout) result }
+    ensures err { within S.Store tx.old tx.new (OnlyFailsInside HasLayout) result }
 {
     add_all(tx, rows)
 }

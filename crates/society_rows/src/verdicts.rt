@@ -34,7 +34,7 @@ impl<'a> VerdictRow<'a> {
     pub fn from_row(row: &'a Row) -> Result<VerdictRow<'a>, RowFault>
         ensures value { IfOk result (λ x. verdict_values x ≡ row.now) }
         ensures read { IsRead verdict_forms row.now result }
-        ensures fault { IfErr result (λ e. e ≡ Unread) }
+        ensures err { IfErr result (λ e. e ≡ Unread) }
     {
         if row.column_count() != 6 {
             return Err(RowFault::Unread);
@@ -88,7 +88,7 @@ pub fn add_verdicts<S: Alter>(
         (Adds verdicts (map verdict_values rows.now)) }
     ensures left { within S.Store tx.old tx.new LeavesFirst result
         (λ count. Adds verdicts (map verdict_values (take count rows.now))) }
-    ensures told { within S.Store tx.old tx.new (OnlyFailsInside HasLayout) result }
+    ensures err { within S.Store tx.old tx.new (OnlyFailsInside HasLayout) result }
     ensures blamed { within S.Store tx.old tx.new BlamesMedium result }
 {
     add_all(tx, rows)

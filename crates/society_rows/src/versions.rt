@@ -34,7 +34,7 @@ impl<'a> VersionRow<'a> {
     pub fn from_row(row: &'a Row) -> Result<VersionRow<'a>, RowFault>
         ensures value { IfOk result (λ x. version_values x ≡ row.now) }
         ensures read { IsRead version_forms row.now result }
-        ensures fault { IfErr result (λ e. e ≡ Unread) }
+        ensures err { IfErr result (λ e. e ≡ Unread) }
     {
         if row.column_count() != 6 {
             return Err(RowFault::Unread);
@@ -88,7 +88,7 @@ pub fn add_versions<S: Alter>(
         (Adds versions (map version_values rows.now)) }
     ensures left { within S.Store tx.old tx.new LeavesFirst result
         (λ count. Adds versions (map version_values (take count rows.now))) }
-    ensures told { within S.Store tx.old tx.new (OnlyFailsInside HasLayout) result }
+    ensures err { within S.Store tx.old tx.new (OnlyFailsInside HasLayout) result }
     ensures blamed { within S.Store tx.old tx.new BlamesMedium result }
 {
     add_all(tx, rows)

@@ -19,8 +19,8 @@ use society_book::{
 };
 use society_closings::close;
 use society_core::{
-    Known, KnownEnd, KnownTransmission, Payment, Place, PoolOrder, ReturnKey, SenderStatus, Store,
-    StoreFault, Work,
+    Known, KnownEnd, KnownTransmission, NumberPlace, Payment, PoolOrder, ReturnKey, SenderStatus,
+    Store, StoreFault, Work,
 };
 use society_rows::{Found, Idle, OfficeRow, ReturnRow, RowFault, create, layout_found};
 use sqlite::{Alter, Connection};
@@ -54,7 +54,7 @@ impl<S: Alter> Store for Tables<S> {
         &self.office
     }
 
-    fn known(
+    fn known_transmission(
         &mut self,
         sender: &SenderKey,
         number: TransmissionNumber,
@@ -80,7 +80,7 @@ impl<S: Alter> Store for Tables<S> {
         &mut self,
         sender: &SenderKey,
         number: TransmissionNumber,
-    ) -> Result<Place, StoreFault> {
+    ) -> Result<NumberPlace, StoreFault> {
         self.counts_on()?;
         let answer = place_of(&mut self.conn, sender.as_bytes(), number);
         store_answer(&mut self.failures, answer)
@@ -159,7 +159,7 @@ impl<S: Alter> Store for Tables<S> {
         alloc: Global,
         number: TransmissionNumber,
         reader: FileReader,
-    ) -> Result<Place, StoreFault> {
+    ) -> Result<NumberPlace, StoreFault> {
         self.counts_on()?;
         let answer = arrive(
             alloc,
@@ -217,7 +217,7 @@ impl<S: Alter> Tables<S> {
     // Refused where the store has counted all the failures that it can.
     fn counts_on(&self) -> Result<(), StoreFault>
         ensures room { IfOk result (λ _. self.now.failures < 2 ^ 64 - 1) }
-        ensures fault { IfErr result (λ fault. (fault ≡ Refused) × (self.now.failures ≡ 2 ^ 64 - 1)) }
+        ensures err { IfErr result (λ fault. (fault ≡ Refused) × (self.now.failures ≡ 2 ^ 64 - 1)) }
     {
         if self.failures == u64::MAX {
             Err(StoreFault::Refused)

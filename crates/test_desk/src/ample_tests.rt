@@ -1,5 +1,5 @@
 //! With ample memory nothing is answered 503: 300 numbers over the plain store. Over tables the program itself is tried (trials/streams.py).
-use crate::checks::told;
+use crate::checks::expect;
 use crate::streams::{Exchange, answer, ask, served};
 use http_desk::Served;
 use society_core::{Desk, PlainStore};
@@ -35,7 +35,7 @@ fn fronts_to_three_hundred(rt: HostRuntime) -> Result<(), Fail> {
     let mut desk = Desk::new(PlainStore::new(alloc, &office()?));
     let ended = served(alloc, &mut desk, &requests, usize::MAX);
     let wanted = Ok(Served { requests: 301 });
-    told(&rt, "all are served", ended.end, wanted);
-    told(&rt, "what is written", ended.written, answers);
+    expect(&rt, "all are served", ended.end, wanted);
+    expect(&rt, "what is written", ended.written, answers);
     Ok(())
 }

@@ -1,5 +1,5 @@
 //! Calls of the desk that bytes do not show: bodies that are fed in pieces, runs of requests, and a work of many versions.
-use crate::checks::told;
+use crate::checks::expect;
 use cwr_files::{FileFault, FileReader};
 use society_core::{Answer, Arrival, Desk, PlainStore, Refusal, Request, Standing, Store, run};
 use std::alloc::Global;
@@ -73,10 +73,10 @@ fn put_in_pieces(rt: HostRuntime) -> Result<(), Fail> {
         (miscounted, 1_022, Err(Refusal::Reused), 1),
     ] {
         let seen = put_fed(alloc, &mut desk, 1, body, second)?;
-        told(&rt, "put", seen, wanted);
+        expect(&rt, "put", seen, wanted);
         let status = desk.sender(alloc, &sender()?).ok().ok_or("a sender")?;
         let standing = (status.front, status.held.len());
-        told(&rt, "front and held", standing, (front, 0));
+        expect(&rt, "front and held", standing, (front, 0));
     }
     Ok(())
 }
@@ -108,7 +108,7 @@ fn check_run(
             _ => return Err(Fail::from("the answer to a put")),
         }
     }
-    told(rt, "run", seen.as_slice(), wanted);
+    expect(rt, "run", seen.as_slice(), wanted);
     Ok(())
 }
 
@@ -143,7 +143,7 @@ fn three_hundred_versions(rt: HostRuntime) -> Result<(), Fail> {
     for n in 1..301 {
         let body = if n == 1 { REGISTERED } else { REVISED };
         let seen = put_whole(alloc, &mut desk, n, body)?;
-        told(&rt, "put", seen, applied(n));
+        expect(&rt, "put", seen, applied(n));
     }
     let last = WorkVersion {
         transmission: number(300)?,
@@ -153,6 +153,6 @@ fn three_hundred_versions(rt: HostRuntime) -> Result<(), Fail> {
     };
     let shown = desk.work(alloc, &sender()?, &work(b"W1")?);
     let shown = shown.ok().ok_or("a work")?;
-    told(&rt, "version", shown.version, last);
+    expect(&rt, "version", shown.version, last);
     Ok(())
 }

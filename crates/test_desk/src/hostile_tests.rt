@@ -1,6 +1,6 @@
 //! Files that are cut, streams that fail at each of their bytes, and connections without an end in sight: what is answered,
 //! how it is given up, and what the book is then.
-use crate::checks::told;
+use crate::checks::expect;
 use crate::desk_rows::{applied, new_desk, put_whole};
 use crate::streams::{Ended, Source, Stream, answer, first_stream, outcome};
 use cwr_files::FileFault;
@@ -27,14 +27,14 @@ fn check_book<S: Store>(
 ) -> Result<(), Fail> {
     let status = desk.sender(alloc, &sender()?).ok().ok_or("a sender")?;
     let front = if requests == 0 { 0 } else { 1 };
-    told(rt, row, status.front, front);
+    expect(rt, row, status.front, front);
     let text = desk.ack(alloc, &sender()?, number(1)?).ok();
     let wanted = if requests == 0 {
         None
     } else {
         Some(REGISTERED_ACK)
     };
-    told(rt, row, text.as_ref().map(|text| text.as_slice()), wanted);
+    expect(rt, row, text.as_ref().map(|text| text.as_slice()), wanted);
     Ok(())
 }
 
@@ -59,9 +59,9 @@ fn check(
     let (source, room, turns) = connection;
     let mut desk = new_desk(alloc)?;
     let Ended { end, written } = outcome(alloc, &mut desk, source, room, turns);
-    told(rt, row, end, wanted.end);
+    expect(rt, row, end, wanted.end);
     let output = stream.output.get(..wanted.written).ok_or("a front")?;
-    told(rt, row, written.as_slice(), output);
+    expect(rt, row, written.as_slice(), output);
     check_book(rt, alloc, row, &mut desk, wanted.requests)
 }
 
@@ -74,7 +74,7 @@ fn prefixes_of_a_file(rt: HostRuntime) -> Result<(), Fail> {
         let arrival = put_whole(alloc, &mut new_desk(alloc)?, 1, body)?;
         let faulty = matches!(&arrival, Err(Refusal::File(_)));
         let whole = length >= 1_046;
-        told(&rt, &row, (arrival.is_ok(), faulty), (whole, !whole));
+        expect(&rt, &row, (arrival.is_ok(), faulty), (whole, !whole));
     }
     Ok(())
 }
@@ -105,7 +105,7 @@ fn one_byte_over_the_greatest_body(rt: HostRuntime) -> Result<(), Fail> {
         ("over again", &over, Err(Refusal::Reused)),
     ] {
         let seen = put_whole(alloc, &mut desk, 1, body)?;
-        told(&rt, row, seen, wanted);
+        expect(&rt, row, seen, wanted);
     }
     Ok(())
 }
@@ -332,8 +332,8 @@ fn a_million_requests(rt: HostRuntime) -> Result<(), Fail> {
     });
     let end = serve(alloc, &mut desk, &mut reader, &mut writer, u64::MAX);
     let requests = 1_000_000;
-    told(&rt, "end", end, Ok(Served { requests }));
+    expect(&rt, "end", end, Ok(Served { requests }));
     let bytes = (output.len() as u64).saturating_mul(ROUNDS);
-    told(&rt, "bytes", writer.into_inner().bytes, bytes);
+    expect(&rt, "bytes", writer.into_inner().bytes, bytes);
     Ok(())
 }

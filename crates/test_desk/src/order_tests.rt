@@ -1,5 +1,5 @@
 //! The faults of an order that is made of numbers. Over bytes only those of a shape and of JSON's numbers are met first.
-use crate::checks::told;
+use crate::checks::expect;
 use share_rules::Kind;
 use society_core::{OrderError, PoolOrder};
 use std::alloc::Global;
@@ -64,7 +64,7 @@ fn fault_of(alloc: Global, amount: u64, cut: &[u64], returns: &[u64]) -> Result<
 fn the_least_fault_of_an_order(rt: HostRuntime) -> Result<(), Fail> {
     for (row, amount, cut, returns, wanted) in FAULTS {
         let seen = fault_of(rt.alloc(), amount, cut, returns)?;
-        told(&rt, row, seen, wanted);
+        expect(&rt, row, seen, wanted);
     }
     Ok(())
 }

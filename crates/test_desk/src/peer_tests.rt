@@ -1,5 +1,5 @@
 //! A peer that waits for its answers with its sending half open: what is due to it is written before it is read on.
-use crate::checks::told;
+use crate::checks::expect;
 use crate::desk_rows::new_desk;
 use crate::streams::first_exchanges;
 use http_desk::{Counted, DeskFault, FaultKind, serve};
@@ -90,10 +90,10 @@ fn check_waiting(rt: &impl Abort, alloc: Global, count: usize, more: usize) -> R
     let mut desk = new_desk(alloc)?;
     let end = serve(alloc, &mut desk, &mut reader, &mut writer, u64::MAX);
     let kind = FaultKind::Read;
-    told(rt, &row, end, Err(DeskFault { kind, requests: 3 }));
-    told(rt, &row, peer.waited.get(), all.answers.len());
+    expect(rt, &row, end, Err(DeskFault { kind, requests: 3 }));
+    expect(rt, &row, peer.waited.get(), all.answers.len());
     let Receiving { taken, peer: _ } = writer.into_inner();
-    told(rt, &row, taken.as_slice(), all.answers.as_slice());
+    expect(rt, &row, taken.as_slice(), all.answers.as_slice());
     Ok(())
 }
 

@@ -1,6 +1,6 @@
 //! Requests over bytes at a store whose medium fails, a body of the greatest length that nothing wants, and what a second connection
 //! finds of a desk to which a first one sent what is refused.
-use crate::checks::told;
+use crate::checks::expect;
 use crate::desk_rows::new_desk;
 use crate::streams::{answer, ask, first_exchanges, served};
 use society_core::{Desk, Store};
@@ -24,7 +24,7 @@ fn check_bytes<S: Store>(
 ) {
     let (input, piece) = sent;
     let seen = served(alloc, desk, input, piece);
-    told(
+    expect(
         rt,
         row,
         str::from_utf8(&seen.written),

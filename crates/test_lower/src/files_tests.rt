@@ -1,5 +1,5 @@
 //! Files: the faults of changed ones, and what a right one tells.
-use crate::checks::told;
+use crate::checks::expect;
 use cwr_files::{FileFault, FileReader, ReadFault, find_fault, read_transmission};
 use cwr_records::TransactionKind;
 use std::alloc::{AllocError, Global};
@@ -91,7 +91,7 @@ fn check_fault(
     wanted: Option<(u8, usize)>,
 ) {
     let fault = find_fault(body, key).map(|fault| (fault.number, fault.line));
-    told(rt, row, fault, wanted);
+    expect(rt, row, fault, wanted);
 }
 
 #[test]
@@ -114,7 +114,7 @@ fn another_sender(rt: HostRuntime) -> Result<(), Fail> {
 }
 
 /// A file without groups, its first line filled with so many blanks.
-fn filled(alloc: Global, blanks: u32) -> Result<Vec<u8>, AllocError> {
+fn fill(alloc: Global, blanks: u32) -> Result<Vec<u8>, AllocError> {
     let mut body = Vec::from_slice(alloc, &REGISTERED[..86])?;
     for _ in 0..blanks {
         body.push(b' ')?;
@@ -126,9 +126,9 @@ fn filled(alloc: Global, blanks: u32) -> Result<Vec<u8>, AllocError> {
 #[test]
 fn long_lines(rt: HostRuntime) -> Result<(), Fail> {
     let key = sender()?;
-    let widest = filled(rt.alloc(), 2_000 - 86)?;
+    let widest = fill(rt.alloc(), 2_000 - 86)?;
     check_fault(&rt, "2,000 bytes", &widest, &key, None);
-    let wider = filled(rt.alloc(), 2_001 - 86)?;
+    let wider = fill(rt.alloc(), 2_001 - 86)?;
     check_fault(&rt, "2,001 bytes", &wider, &key, Some((12, 1)));
     Ok(())
 }
@@ -144,7 +144,7 @@ fn cut_files(rt: HostRuntime) -> Result<(), Fail> {
             whole = whole.saturating_add(1);
         }
     }
-    told(&rt, "fronts that are files", whole, 3);
+    expect(&rt, "fronts that are files", whole, 3);
     Ok(())
 }
 
@@ -154,16 +154,16 @@ fn check_unread(rt: &impl Abort, alloc: Global, body: &[u8]) -> Result<(), Fail>
     let [unread, songs] = transmission.groups.as_slice() else {
         return Err(Fail::from("two groups"));
     };
-    let kind = unread.header.transaction_type.field().trimmed();
-    told(rt, "kind of the first group", kind, b"AGR");
+    let kind = unread.header.transaction_type.field().trim();
+    expect(rt, "kind of the first group", kind, b"AGR");
     let count = unread.transactions.as_slice().len();
-    told(rt, "transactions of the first group", count, 0);
+    expect(rt, "transactions of the first group", count, 0);
     let [song] = songs.transactions.as_slice() else {
         return Err(Fail::from("one song"));
     };
     let place = (song.kind, song.group, song.sequence);
-    told(rt, "song", place, (TransactionKind::Nwr, 2, 0));
-    told(rt, "records", song.records.as_slice().len(), 7);
+    expect(rt, "song", place, (TransactionKind::Nwr, 2, 0));
+    expect(rt, "records", song.records.as_slice().len(), 7);
     Ok(())
 }
 
@@ -171,10 +171,10 @@ fn check_unread(rt: &impl Abort, alloc: Global, body: &[u8]) -> Result<(), Fail>
 fn group_that_is_not_read(rt: HostRuntime) -> Result<(), Fail> {
     let alloc = rt.alloc();
     let file = with_unread_group(alloc)?;
-    told(&rt, "carriage returns and line feeds", file.len(), 1123);
+    expect(&rt, "carriage returns and line feeds", file.len(), 1123);
     check_unread(&rt, alloc, &file)?;
     let file = joined(alloc, lines(alloc, &file)?.as_slice(), b"\n")?;
-    told(&rt, "line feeds", file.len(), 1109);
+    expect(&rt, "line feeds", file.len(), 1109);
     check_unread(&rt, alloc, &file)
 }
 
@@ -182,15 +182,15 @@ fn group_that_is_not_read(rt: HostRuntime) -> Result<(), Fail> {
 fn what_a_transaction_tells(rt: HostRuntime) -> Result<(), Fail> {
     let transmission = read_transmission(rt.alloc(), REGISTERED, &sender()?)?;
     let song = transmission.transaction(0).ok_or("a song")?;
-    told(&rt, "work", song.work().is_some(), true);
-    told(&rt, "title", song.title().trimmed_end(), b"FIRST SONG");
+    expect(&rt, "work", song.work().is_some(), true);
+    expect(&rt, "title", song.title().trimmed_end(), b"FIRST SONG");
     let submitter = song.submitter_number();
-    told(&rt, "submitter's number", submitter.trimmed_end(), b"W1");
-    told(&rt, "work number", song.work_number(), Some(work(b"W1")?));
+    expect(&rt, "submitter's number", submitter.trimmed_end(), b"W1");
+    expect(&rt, "work number", song.work_number(), Some(work(b"W1")?));
     let iswc = song.iswc().ok().flatten().ok_or("an ISWC")?;
-    told(&rt, "ISWC", iswc.as_bytes(), b"T0345246801");
+    expect(&rt, "ISWC", iswc.as_bytes(), b"T0345246801");
     let next = transmission.transaction(1).is_none();
-    told(&rt, "no second transaction", next, true);
+    expect(&rt, "no second transaction", next, true);
     Ok(())
 }
 
@@ -210,13 +210,13 @@ fn with_blank_lines(alloc: Global, bytes: usize) -> Result<Vec<u8>, AllocError> 
 fn largest_body(rt: HostRuntime) -> Result<(), Fail> {
     let key = sender()?;
     let largest = with_blank_lines(rt.alloc(), LARGEST)?;
-    told(&rt, "bytes", largest.len(), LARGEST);
+    expect(&rt, "bytes", largest.len(), LARGEST);
     let transmission = read_transmission(rt.alloc(), &largest, &key)?;
-    told(&rt, "groups", transmission.groups.as_slice().len(), 1);
-    told(&rt, "song", transmission.transaction(0).is_some(), true);
+    expect(&rt, "groups", transmission.groups.as_slice().len(), 1);
+    expect(&rt, "song", transmission.transaction(0).is_some(), true);
     let larger = with_blank_lines(rt.alloc(), LARGEST + 1)?;
     let fault = find_fault(&larger, &key).map(|fault| fault.number);
-    told(&rt, "one byte more", fault, Some(12));
+    expect(&rt, "one byte more", fault, Some(12));
     Ok(())
 }
 
@@ -282,13 +282,13 @@ fn check_grouped(rt: &impl Abort, alloc: Global, groups: usize, songs: usize) ->
     let row = format!(in alloc; "{groups} groups of {songs}")?;
     let body = grouped(alloc, groups, songs)?;
     let transmission = read_transmission(alloc, &body, &key)?;
-    told(rt, &row, transmission.groups.as_slice().len(), groups);
+    expect(rt, &row, transmission.groups.as_slice().len(), groups);
     let all = songs.saturating_mul(groups);
-    told(rt, &row, transmission.transaction(all).is_none(), true);
+    expect(rt, &row, transmission.transaction(all).is_none(), true);
     if all > 0 {
         let last = transmission.transaction(all - 1);
         let place = last.map(|last| (last.group as usize, last.sequence as usize));
-        told(rt, &row, place, Some((groups, songs.saturating_sub(1))));
+        expect(rt, &row, place, Some((groups, songs.saturating_sub(1))));
     }
     Ok(())
 }
@@ -313,17 +313,17 @@ fn fed(alloc: Global, key: &SenderKey, body: &[u8], count: usize) -> Result<File
 #[test]
 fn one_file_in_pieces(rt: HostRuntime) -> Result<(), Fail> {
     let alloc = rt.alloc();
-    told(&rt, "bytes", REGISTERED.len(), 1_048);
+    expect(&rt, "bytes", REGISTERED.len(), 1_048);
     for count in [1, 7, 1_048] {
         let row = format!(in alloc; "pieces of {count}")?;
         let reader = fed(alloc, &sender()?, REGISTERED, count)?;
-        told(&rt, &row, reader.body(), REGISTERED);
+        expect(&rt, &row, reader.body(), REGISTERED);
         let transmission = reader.finish(alloc)?;
-        told(&rt, &row, transmission.groups.as_slice().len(), 1);
+        expect(&rt, &row, transmission.groups.as_slice().len(), 1);
         let song = transmission.transaction(0).ok_or("a song")?;
-        told(&rt, &row, song.records.as_slice().len(), 7);
-        told(&rt, &row, song.title().trimmed_end(), b"FIRST SONG");
-        told(&rt, &row, transmission.transaction(1).is_none(), true);
+        expect(&rt, &row, song.records.as_slice().len(), 7);
+        expect(&rt, &row, song.title().trimmed_end(), b"FIRST SONG");
+        expect(&rt, &row, transmission.transaction(1).is_none(), true);
     }
     Ok(())
 }
@@ -358,8 +358,8 @@ fn faults_told_byte_by_byte(rt: HostRuntime) -> Result<(), Fail> {
     let alloc = rt.alloc();
     let key = sender()?;
     let counts = with_line(alloc, 10, Some("GRT000010000000100000008"))?;
-    let widest = filled(alloc, 2_000 - 86)?;
-    let wider = filled(alloc, 2_001 - 86)?;
+    let widest = fill(alloc, 2_000 - 86)?;
+    let wider = fill(alloc, 2_001 - 86)?;
     for (row, body, wanted) in [
         ("a wrong count", &counts, (1_021, Some((8, 10)))),
         ("2,000 bytes", &widest, (widest.len(), None)),
@@ -367,7 +367,7 @@ fn faults_told_byte_by_byte(rt: HostRuntime) -> Result<(), Fail> {
     ] {
         let (place, fault) = taken(alloc, &key, body)?;
         let fault = fault.map(|fault| (fault.number, fault.line));
-        told(&rt, row, (place, fault), wanted);
+        expect(&rt, row, (place, fault), wanted);
     }
     Ok(())
 }
@@ -392,7 +392,7 @@ fn bodies_that_end_early(rt: HostRuntime) -> Result<(), Fail> {
         ("one byte fewer", 1_035, Some((9, 11))),
     ] {
         let front = body.as_slice().get(..bytes).unwrap_or(b"");
-        told(&rt, row, fault_at_end(alloc, front)?, wanted);
+        expect(&rt, row, fault_at_end(alloc, front)?, wanted);
     }
     Ok(())
 }
@@ -401,9 +401,9 @@ fn bodies_that_end_early(rt: HostRuntime) -> Result<(), Fail> {
 fn largest_body_in_pieces(rt: HostRuntime) -> Result<(), Fail> {
     let largest = with_blank_lines(rt.alloc(), LARGEST)?;
     let mut reader = fed(rt.alloc(), &sender()?, &largest, 65_536)?;
-    told(&rt, "whole", reader.finish(rt.alloc()).is_ok(), true);
+    expect(&rt, "whole", reader.finish(rt.alloc()).is_ok(), true);
     let over = matches!(reader.feed(b" "), Err(ReadFault::File(_)));
-    told(&rt, "one byte more", over, true);
-    told(&rt, "bytes", reader.into_body().len(), LARGEST + 1);
+    expect(&rt, "one byte more", over, true);
+    expect(&rt, "bytes", reader.into_body().len(), LARGEST + 1);
     Ok(())
 }

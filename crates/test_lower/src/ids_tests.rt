@@ -1,5 +1,5 @@
 //! Identifiers: what their texts are read as, how they are printed, and the faults of other texts.
-use crate::checks::told;
+use crate::checks::expect;
 use std::process::Abort;
 use std::test::Fail;
 use work_ids::{
@@ -11,15 +11,15 @@ use work_ids::{
 #[test]
 fn sender_keys(rt: HostRuntime) -> Result<(), Fail> {
     let key = SenderKey::from_bytes(b"PB000000012")?;
-    told(&rt, "key", key.as_bytes(), b"PB000000012");
-    told(&rt, "type", key.sender_type(), b"PB");
-    told(&rt, "id", key.sender_id(), b"000000012");
+    expect(&rt, "key", key.as_bytes(), b"PB000000012");
+    expect(&rt, "type", key.sender_type(), b"PB");
+    expect(&rt, "id", key.sender_id(), b"000000012");
     for (text, fault) in [
         ("PB00000001", IdFault::Length),
         ("pb000000012", IdFault::Character),
     ] {
         let read = SenderKey::from_bytes(text.as_bytes());
-        told(&rt, text, read.err(), Some(fault));
+        expect(&rt, text, read.err(), Some(fault));
     }
     Ok(())
 }
@@ -27,14 +27,14 @@ fn sender_keys(rt: HostRuntime) -> Result<(), Fail> {
 #[test]
 fn work_numbers(rt: HostRuntime) -> Result<(), Fail> {
     let number = WorkNumber::from_bytes(b"W1            ")?;
-    told(&rt, "number", number.as_bytes(), b"W1");
+    expect(&rt, "number", number.as_bytes(), b"W1");
     for (text, fault) in [
         ("  ", IdFault::Length),
         ("123456789012345", IdFault::Length),
         ("W\t1", IdFault::Character),
     ] {
         let read = WorkNumber::from_bytes(text.as_bytes());
-        told(&rt, text, read.err(), Some(fault));
+        expect(&rt, text, read.err(), Some(fault));
     }
     Ok(())
 }
@@ -47,23 +47,19 @@ fn check_digits(rt: HostRuntime) {
         (b"03452468X", None),
     ] {
         let text = str::from_utf8(digits).unwrap_or("");
-        told(&rt, text, check_digit(digits), wanted);
+        expect(&rt, text, check_digit(digits), wanted);
     }
 }
 
 #[test]
 fn iswc_fields(rt: HostRuntime) -> Result<(), Fail> {
     let iswc = Iswc::from_field(b"T0345246801")?.ok_or("an ISWC")?;
-    told(&rt, "text", iswc.to_text().as_slice(), b"T-034.524.680-1");
-    told(&rt, "bytes", iswc.as_bytes(), b"T0345246801");
-    told(
-        &rt,
-        "back",
-        Iswc::from_text(b"T-034.524.680-1").ok(),
-        Some(iswc),
-    );
+    expect(&rt, "text", iswc.to_text().as_slice(), b"T-034.524.680-1");
+    expect(&rt, "bytes", iswc.as_bytes(), b"T0345246801");
+    let back = Iswc::from_text(b"T-034.524.680-1");
+    expect(&rt, "back", back.ok(), Some(iswc));
     let other = Iswc::from_text(b"T-034.524-680-1");
-    told(&rt, "marks", other.err(), Some(IdFault::Character));
+    expect(&rt, "marks", other.err(), Some(IdFault::Character));
     for (field, wanted) in [
         ("T0345246802", Err(IdFault::CheckDigit)),
         ("T0000000010", Ok(true)),
@@ -72,7 +68,7 @@ fn iswc_fields(rt: HostRuntime) -> Result<(), Fail> {
         ("T034524680", Err(IdFault::Length)),
     ] {
         let read = Iswc::from_field(field.as_bytes());
-        told(&rt, field, read.map(|iswc| iswc.is_some()), wanted);
+        expect(&rt, field, read.map(|iswc| iswc.is_some()), wanted);
     }
     Ok(())
 }
@@ -80,17 +76,17 @@ fn iswc_fields(rt: HostRuntime) -> Result<(), Fail> {
 #[test]
 fn isrcs(rt: HostRuntime) -> Result<(), Fail> {
     let isrc = Isrc::from_text(b"at-abc-26-00001")?;
-    told(&rt, "bytes", isrc.as_bytes(), b"ATABC2600001");
-    told(&rt, "text", isrc.to_text().as_slice(), b"AT-ABC-26-00001");
+    expect(&rt, "bytes", isrc.as_bytes(), b"ATABC2600001");
+    expect(&rt, "text", isrc.to_text().as_slice(), b"AT-ABC-26-00001");
     let short = Isrc::from_text(b"AT");
-    told(&rt, "AT", short.err(), Some(IdFault::Length));
+    expect(&rt, "AT", short.err(), Some(IdFault::Length));
     for (field, wanted) in [
         ("ATABC2600001", Ok(Some(isrc))),
         ("            ", Ok(None)),
         ("atabc2600001", Err(IdFault::Character)),
         ("A1ABC2600001", Err(IdFault::Character)),
     ] {
-        told(&rt, field, Isrc::from_field(field.as_bytes()), wanted);
+        expect(&rt, field, Isrc::from_field(field.as_bytes()), wanted);
     }
     Ok(())
 }
@@ -98,7 +94,7 @@ fn isrcs(rt: HostRuntime) -> Result<(), Fail> {
 #[test]
 fn ipi_names(rt: HostRuntime) -> Result<(), Fail> {
     let name = IpiName::from_field(b"199        ")?.ok_or("an IPI name number")?;
-    told(&rt, "name", name.as_bytes(), b"00000000199");
+    expect(&rt, "name", name.as_bytes(), b"00000000199");
     for (field, wanted) in [
         ("199", Ok(true)),
         ("0000000019A", Err(IdFault::Character)),
@@ -106,7 +102,7 @@ fn ipi_names(rt: HostRuntime) -> Result<(), Fail> {
         ("000000000199", Err(IdFault::Length)),
     ] {
         let read = IpiName::from_field(field.as_bytes());
-        told(&rt, field, read.map(|name| name.is_some()), wanted);
+        expect(&rt, field, read.map(|name| name.is_some()), wanted);
     }
     Ok(())
 }
@@ -114,30 +110,26 @@ fn ipi_names(rt: HostRuntime) -> Result<(), Fail> {
 #[test]
 fn parties(rt: HostRuntime) -> Result<(), Fail> {
     let number = PartyNumber::from_field(b" P1      ")?;
-    told(&rt, "number", number.as_bytes(), b"P1");
-    told(&rt, "blank", number.is_blank(), false);
+    expect(&rt, "number", number.as_bytes(), b"P1");
+    expect(&rt, "blank", number.is_blank(), false);
     let long = PartyNumber::from_field(b"1234567890");
-    told(&rt, "1234567890", long.err(), Some(IdFault::Length));
+    expect(&rt, "1234567890", long.err(), Some(IdFault::Length));
     let reporter = Reporter::from_bytes(b"RADIO1")?;
-    told(&rt, "reporter", reporter.as_bytes(), b"RADIO1");
+    expect(&rt, "reporter", reporter.as_bytes(), b"RADIO1");
     let nobody = Reporter::from_bytes(b"");
-    told(&rt, "nobody", nobody.err(), Some(IdFault::Length));
+    expect(&rt, "nobody", nobody.err(), Some(IdFault::Length));
     Ok(())
 }
 
 #[test]
 fn accounts(rt: HostRuntime) -> Result<(), Fail> {
     let party = Account::from_bytes(b"PPB000000012P1")?;
-    told(&rt, "number", party.pieces().2, b"P1");
+    expect(&rt, "number", party.pieces().2, b"P1");
     let unclaimed = Account::from_bytes(b"UNCLAIMED");
-    told(&rt, "UNCLAIMED", unclaimed, Ok(Account::Unclaimed));
+    expect(&rt, "UNCLAIMED", unclaimed, Ok(Account::Unclaimed));
     let named = Account::from_bytes(b"I00000000199");
-    told(
-        &rt,
-        "I00000000199",
-        matches!(named, Ok(Account::Ipi(_))),
-        true,
-    );
+    let is_named = matches!(named, Ok(Account::Ipi(_)));
+    expect(&rt, "I00000000199", is_named, true);
     for (text, fault) in [
         ("I00000000000", IdFault::Character),
         ("PPB000000012 P1", IdFault::Character),
@@ -146,7 +138,7 @@ fn accounts(rt: HostRuntime) -> Result<(), Fail> {
         ("", IdFault::Length),
     ] {
         let read = Account::from_bytes(text.as_bytes());
-        told(&rt, text, read.err(), Some(fault));
+        expect(&rt, text, read.err(), Some(fault));
     }
     Ok(())
 }
@@ -166,7 +158,7 @@ fn numbers_of_transmissions_returns_and_pools(rt: HostRuntime) {
         let performances = ReturnNumber::from_u32(number).is_some();
         let pool = PoolNumber::from_u32(number).is_some();
         let seen = (number, transmission, performances, pool);
-        told(&rt, "number", seen, (number, is_six, is_six, is_five));
+        expect(&rt, "number", seen, (number, is_six, is_six, is_five));
     }
 }
 
@@ -192,11 +184,11 @@ const TEXTS: [(&str, Option<u32>, Option<u32>); 13] = [
 fn texts_of_numbers(rt: HostRuntime) {
     for (text, six, five) in TEXTS {
         let transmission = TransmissionNumber::from_text(text.as_bytes());
-        told(&rt, text, transmission.map(|number| number.value()), six);
+        expect(&rt, text, transmission.map(|number| number.value()), six);
         let performances = ReturnNumber::from_text(text.as_bytes());
-        told(&rt, text, performances.map(|number| number.value()), six);
+        expect(&rt, text, performances.map(|number| number.value()), six);
         let pool = PoolNumber::from_text(text.as_bytes());
-        told(&rt, text, pool.map(|number| number.value()), five);
+        expect(&rt, text, pool.map(|number| number.value()), five);
     }
 }
 
@@ -221,14 +213,14 @@ const RANKS: [(u32, Option<(Segment, u32)>); 14] = [
 /// Checks that a number of a segment has this rank, and is the number with it.
 fn check_rank(rt: &impl Abort, segment: Segment, sequence: u32, rank: u32) {
     let ranked = TransmissionNumber::from_u32(rank);
-    told(
+    expect(
         rt,
         "made",
         TransmissionNumber::new(segment, sequence),
         ranked,
     );
     let made = TransmissionNumber::new(segment, sequence).map(|number| number.value());
-    told(rt, "rank", made, Some(rank));
+    expect(rt, "rank", made, Some(rank));
 }
 
 #[test]
@@ -238,7 +230,7 @@ fn ranks_of_transmission_numbers(rt: HostRuntime) {
             number.segment(),
             number.sequence(),
         ));
-        told(&rt, "parts", (rank, parts), (rank, wanted));
+        expect(&rt, "parts", (rank, parts), (rank, wanted));
         if let Some((segment, sequence)) = wanted {
             check_rank(&rt, segment, sequence, rank);
         }
@@ -259,20 +251,12 @@ const BEYOND: [(Segment, u32); 6] = [
 fn numbers_that_no_segment_has(rt: HostRuntime) {
     for (segment, sequence) in BEYOND {
         let number = TransmissionNumber::new(segment, sequence);
-        told(
-            &rt,
-            "number",
-            (segment, sequence, number),
-            (segment, sequence, None),
-        );
+        let seen = (segment, sequence, number);
+        expect(&rt, "number", seen, (segment, sequence, None));
     }
     for rank in [0, 1_000_000, 1_260_001] {
-        told(
-            &rt,
-            "plain",
-            (rank, TransmissionNumber::plain(rank)),
-            (rank, None),
-        );
+        let plain = TransmissionNumber::plain(rank);
+        expect(&rt, "plain", (rank, plain), (rank, None));
     }
 }
 
@@ -295,7 +279,7 @@ fn places_of_segments(rt: HostRuntime) -> Result<(), Fail> {
             let place = SegmentPlace::of_rank(rank);
             let is_behind_27 = place >= SegmentEnd::new(Segment::Year(27), 0, 28)?.place();
             let seen = (rank, place.segment(), is_behind_27);
-            told(&rt, "place", seen, (rank, segment, rank >= 1_270_000));
+            expect(&rt, "place", seen, (rank, segment, rank >= 1_270_000));
         }
     }
     Ok(())
@@ -312,7 +296,7 @@ fn order_of_transmission_numbers(rt: HostRuntime) {
     ];
     for index in 1..ascending.len() {
         let is_less = ascending[index - 1] < ascending[index];
-        told(&rt, "order", (index, is_less), (index, true));
+        expect(&rt, "order", (index, is_less), (index, true));
     }
 }
 
@@ -340,10 +324,10 @@ fn texts_of_years(rt: HostRuntime) {
     for (text, wanted) in DATED_TEXTS {
         let read = SpelledNumber::from_text(text.as_bytes());
         let spelled = wanted.map(|(year, sequence)| SpelledNumber::Dated { year, sequence });
-        told(&rt, text, read, spelled);
+        expect(&rt, text, read, spelled);
         if let Some((year, sequence)) = wanted {
             let written = dated_text(year, sequence);
-            told(&rt, text, written.as_slice(), text.as_bytes());
+            expect(&rt, text, written.as_slice(), text.as_bytes());
         }
     }
 }
@@ -372,7 +356,7 @@ fn spelled_numbers(rt: HostRuntime) {
         ),
     ] {
         let rank = spelled.number().map(|number| number.value());
-        told(&rt, "rank", (spelled, rank), (spelled, wanted));
+        expect(&rt, "rank", (spelled, rank), (spelled, wanted));
     }
 }
 
@@ -413,15 +397,11 @@ const NAMES: [(&str, Option<u32>); 29] = [
 fn file_names(rt: HostRuntime) {
     for (name, wanted) in NAMES {
         let number = read_file_name(name.as_bytes(), 900);
-        told(&rt, name, number.map(|number| number.value()), wanted);
+        expect(&rt, name, number.map(|number| number.value()), wanted);
     }
     let small = read_file_name(b"CW260012EXA_007.V22", 7);
-    told(
-        &rt,
-        "007",
-        small.map(|number| number.value()),
-        Some(1_260_012),
-    );
+    let rank = small.map(|number| number.value());
+    expect(&rt, "007", rank, Some(1_260_012));
 }
 
 /// A segment, its last number and the next year, and the least fault of that end.
@@ -453,27 +433,15 @@ fn segment_ends(rt: HostRuntime) -> Result<(), Fail> {
     for (segment, last, next, wanted) in ENDS {
         let fault = SegmentEnd::new(segment, last, next).err();
         let number = fault.map(|fault| fault.number());
-        told(
-            &rt,
-            "fault",
-            (segment, last, next, number),
-            (segment, last, next, wanted),
-        );
+        let seen = (segment, last, next, number);
+        expect(&rt, "fault", seen, (segment, last, next, wanted));
     }
     let end = SegmentEnd::new(Segment::Year(26), 3, 28)?;
     let seen = (end.segment(), end.last(), end.next());
-    told(&rt, "end", seen, (Segment::Year(26), 3, 28));
-    told(
-        &rt,
-        "same",
-        SegmentEnd::new(Segment::Year(26), 3, 28) == Ok(end),
-        true,
-    );
-    told(
-        &rt,
-        "kind",
-        SegmentEnd::new(Segment::Year(26), 3, 2).err(),
-        Some(SegmentFault::NotLater),
-    );
+    expect(&rt, "end", seen, (Segment::Year(26), 3, 28));
+    let again = SegmentEnd::new(Segment::Year(26), 3, 28);
+    expect(&rt, "same", again == Ok(end), true);
+    let early = SegmentEnd::new(Segment::Year(26), 3, 2);
+    expect(&rt, "kind", early.err(), Some(SegmentFault::NotLater));
     Ok(())
 }

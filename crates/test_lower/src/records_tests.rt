@@ -1,7 +1,7 @@
 //! Records: lines that are read field by field and written in full, and what their fields say.
 ghost use Rattle.std.specs.Prelude.{◌≡◌, length};
 
-use crate::checks::told;
+use crate::checks::expect;
 use cwr_records::{
     Field, Indicator, Line, PublisherRecord, PublisherTerritory, Record, RecordKind,
     RecordingDetail, Share, TisCode, WorkRecord, WriterRecord, read_record, split_line,
@@ -72,7 +72,7 @@ fn show<'a, K: RecordKind<'a>>(
 ) -> Result<(), AllocError> {
     let positions = K::positions();
     for (index, _position) in positions.iter().enumerate() {
-        fields.extend_from_slice(record.content(index).trimmed())?;
+        fields.extend_from_slice(record.content(index).trim())?;
         fields.push(b'|')?;
     }
     write_record(record, line)
@@ -104,15 +104,15 @@ fn show_any(
 /// Checks the lines of a body, a row for each.
 fn check_lines(rt: &impl Abort, alloc: Global, body: &[u8], rows: &[Row]) -> Result<(), Fail> {
     let lines = lines(alloc, body)?;
-    told(rt, "lines", lines.len(), rows.len());
+    expect(rt, "lines", lines.len(), rows.len());
     for (bytes, (width, texts)) in lines.iter().zip(rows) {
         let mut line = Vec::new(alloc);
         let mut fields = Vec::new(alloc);
         show_any(&read_record(Line::new(bytes)), &mut line, &mut fields)?;
-        told(rt, texts, fields.as_slice(), texts.as_bytes());
-        told(rt, texts, line.len(), width.saturating_add(2));
-        told(rt, texts, line.as_slice().starts_with(bytes), true);
-        told(rt, texts, line.as_slice().ends_with(b"\r\n"), true);
+        expect(rt, texts, fields.as_slice(), texts.as_bytes());
+        expect(rt, texts, line.len(), width.saturating_add(2));
+        expect(rt, texts, line.as_slice().starts_with(bytes), true);
+        expect(rt, texts, line.as_slice().ends_with(b"\r\n"), true);
     }
     Ok(())
 }
@@ -126,9 +126,9 @@ fn lines_read_field_by_field_and_are_written_in_full(rt: HostRuntime) -> Result<
 #[test]
 fn lines_end_with_lf_and_perhaps_cr(rt: HostRuntime) {
     let (first, rest) = split_line(b"HDR\r\nTRL\n");
-    told(&rt, "HDR", first.field(1, 5).is(b"HDR  "), true);
+    expect(&rt, "HDR", first.field(1, 5).is(b"HDR  "), true);
     let (second, rest) = split_line(rest);
-    told(&rt, "TRL", (second.len(), rest.is_empty()), (3, true));
+    expect(&rt, "TRL", (second.len(), rest.is_empty()), (3, true));
 }
 
 /// The records of a registration that have typed fields.
@@ -195,18 +195,18 @@ fn work_line(alloc: Global) -> Result<&'static [u8], Fail> {
 fn a_short_work_reads_with_blanks_and_is_written_in_full(rt: HostRuntime) -> Result<(), Fail> {
     let bytes = work_line(rt.alloc())?;
     let behind = Line::new(bytes).field(107, 145).is_blank();
-    told(&rt, "read", (bytes.len(), behind), (106, true));
+    expect(&rt, "read", (bytes.len(), behind), (106, true));
     let Record::Work(work) = read_record(Line::new(bytes)) else {
         return Err(Fail::from("a work"));
     };
     let date = work.copyright_date.field().is(b"        ");
-    told(&rt, "copyright date", date, true);
+    expect(&rt, "copyright date", date, true);
     let version = work.version_type.field().is(b"   ");
-    told(&rt, "version type", version, true);
+    expect(&rt, "version type", version, true);
     let mut written = Vec::new(rt.alloc());
     write_record(&work, &mut written)?;
     let behind = Line::new(written.as_slice()).field(107, 145).is_blank();
-    told(&rt, "written", (written.len(), behind), (147, true));
+    expect(&rt, "written", (written.len(), behind), (147, true));
     Ok(())
 }
 
@@ -218,11 +218,11 @@ fn identifiers_read_with_their_types(rt: HostRuntime) -> Result<(), Fail> {
         ..
     } = read_registration(rt.alloc())?;
     let iswc = work.iswc()?.ok_or("an ISWC")?;
-    told(&rt, "ISWC", iswc.as_bytes(), b"T0345246801");
+    expect(&rt, "ISWC", iswc.as_bytes(), b"T0345246801");
     let number = work.work_number()?;
-    told(&rt, "work number", number.as_bytes(), b"W1");
+    expect(&rt, "work number", number.as_bytes(), b"W1");
     let isrc = recording.isrc()?.ok_or("an ISRC")?;
-    told(&rt, "ISRC", isrc.as_bytes(), b"ATABC2600001");
+    expect(&rt, "ISRC", isrc.as_bytes(), b"ATABC2600001");
     Ok(())
 }
 
@@ -234,27 +234,27 @@ fn publisher_and_writer_read_with_their_shares(rt: HostRuntime) -> Result<(), Fa
         ..
     } = read_registration(rt.alloc())?;
     for (name, field, wanted) in [
-        ("publisher", publisher.party.field().trimmed(), "P1"),
+        ("publisher", publisher.party.field().trim(), "P1"),
         (
             "publisher's IPI name",
-            publisher.ipi_name.field().trimmed(),
+            publisher.ipi_name.field().trim(),
             "00000000199",
         ),
-        ("first name", writer.first_name.field().trimmed(), "ANNA"),
+        ("first name", writer.first_name.field().trim(), "ANNA"),
         (
             "writer's IPI name",
-            writer.ipi_name.field().trimmed(),
+            writer.ipi_name.field().trim(),
             "00000000295",
         ),
     ] {
-        told(&rt, name, field, wanted.as_bytes());
+        expect(&rt, name, field, wanted.as_bytes());
     }
     let performing = hundredths(&publisher.pr_share.field());
-    told(&rt, "publisher's PR share", performing, Some(5000));
+    expect(&rt, "publisher's PR share", performing, Some(5000));
     let synchronizing = hundredths(&publisher.sr_share.field());
-    told(&rt, "publisher's SR share", synchronizing, Some(10000));
+    expect(&rt, "publisher's SR share", synchronizing, Some(10000));
     let mechanical = hundredths(&writer.mr_share.field());
-    told(&rt, "writer's MR share", mechanical, Some(0));
+    expect(&rt, "writer's MR share", mechanical, Some(0));
     Ok(())
 }
 
@@ -262,16 +262,12 @@ fn publisher_and_writer_read_with_their_shares(rt: HostRuntime) -> Result<(), Fa
 fn territory_rows_read_with_their_territory(rt: HostRuntime) -> Result<(), Fail> {
     let TypedRecords { territory: row, .. } = read_registration(rt.alloc())?;
     let indicator = Indicator::from_field(&row.indicator.field());
-    told(
-        &rt,
-        "indicator",
-        indicator == Some(Indicator::Included),
-        true,
-    );
+    let is_included = indicator == Some(Indicator::Included);
+    expect(&rt, "indicator", is_included, true);
     let territory = TisCode::from_field(&row.territory.field());
     let code = territory.map(|code| code.value());
-    told(&rt, "territory", code, Some(2136));
-    told(&rt, "sequence", row.sequence.field().number(), Some(1));
+    expect(&rt, "territory", code, Some(2136));
+    expect(&rt, "sequence", row.sequence.field().number(), Some(1));
     Ok(())
 }
 
@@ -286,7 +282,7 @@ fn shares_are_five_digits_or_blank(rt: HostRuntime) {
         (b" 0500", None),
     ] {
         let row = str::from_utf8(text).unwrap_or("");
-        told(&rt, row, hundredths(&Field::new(text, 5)), share);
+        expect(&rt, row, hundredths(&Field::new(text, 5)), share);
     }
 }
 

@@ -1,5 +1,5 @@
 //! Returns: bodies with their faults, and the rows of right ones.
-use crate::checks::told;
+use crate::checks::expect;
 use perf_returns::{ReturnError, read_return};
 use std::alloc::{AllocError, Global};
 use std::test::Fail;
@@ -82,7 +82,7 @@ fn fault_of(alloc: Global, body: &[u8]) -> Result<Option<(u8, usize)>, Fail> {
 #[test]
 fn faults_of_bodies(rt: HostRuntime) -> Result<(), Fail> {
     for (body, fault) in FAULTY {
-        told(
+        expect(
             &rt,
             body,
             fault_of(rt.alloc(), body.as_bytes())?,
@@ -97,12 +97,12 @@ fn rows_of_bodies(rt: HostRuntime) -> Result<(), Fail> {
     for (body, rows) in RIGHT {
         let read = read_return(rt.alloc(), body.as_bytes())?;
         let read = read.rows.as_slice();
-        told(&rt, body, read.len(), rows.len());
+        expect(&rt, body, read.len(), rows.len());
         for (performance, (isrc, plays, seconds)) in read.iter().zip(rows) {
             let text = performance.isrc.to_text();
-            told(&rt, body, text.as_slice(), isrc.as_bytes());
+            expect(&rt, body, text.as_slice(), isrc.as_bytes());
             let counts = (performance.plays.value(), performance.seconds.value());
-            told(&rt, body, counts, (*plays, *seconds));
+            expect(&rt, body, counts, (*plays, *seconds));
         }
     }
     Ok(())
@@ -122,9 +122,9 @@ fn body_of(alloc: Global, rows: u32) -> Result<Vec<u8>, AllocError> {
 fn ten_thousand_rows_and_one_more(rt: HostRuntime) -> Result<(), Fail> {
     let most = body_of(rt.alloc(), 10_000)?;
     let rows = read_return(rt.alloc(), &most)?.rows.as_slice().len();
-    told(&rt, "10,000 rows", rows, 10_000);
+    expect(&rt, "10,000 rows", rows, 10_000);
     let more = body_of(rt.alloc(), 10_001)?;
     let fault = fault_of(rt.alloc(), &more)?;
-    told(&rt, "10,001 rows", fault, Some((6, 10_002)));
+    expect(&rt, "10,001 rows", fault, Some((6, 10_002)));
     Ok(())
 }

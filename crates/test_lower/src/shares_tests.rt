@@ -1,5 +1,5 @@
 //! Transactions: the faults of a changed work, and who is paid with which weight.
-use crate::checks::told;
+use crate::checks::expect;
 use cwr_files::{Records, Transaction};
 use cwr_records::{Line, TransactionKind, read_record};
 use share_rules::{Holder, Kind, judge, weights};
@@ -76,7 +76,7 @@ fn changed_works(rt: HostRuntime) -> Result<(), Fail> {
     for (row, line, position, bytes, fault) in ROWS {
         let body = changed(alloc, REGISTERED, &[(line, position, bytes)])?;
         let song = work_of(alloc, &body)?;
-        told(&rt, row, judge(&song, &office), fault);
+        expect(&rt, row, judge(&song, &office), fault);
     }
     Ok(())
 }
@@ -106,9 +106,9 @@ fn weights_of_works(rt: HostRuntime) -> Result<(), Fail> {
     for (row, body, kind, wanted) in WEIGHTS {
         let wanted = holders(wanted)?;
         let song = work_of(alloc, body)?;
-        told(&rt, row, judge(&song, &office), None);
+        expect(&rt, row, judge(&song, &office), None);
         let paid = weights(alloc, kind, &sender, &song, &office)?;
-        told(&rt, row, paid.as_slice(), wanted.as_slice());
+        expect(&rt, row, paid.as_slice(), wanted.as_slice());
     }
     Ok(())
 }
@@ -130,7 +130,7 @@ fn holders_without_an_ipi_name_number(rt: HostRuntime) -> Result<(), Fail> {
         held(Account::Unclaimed, 0),
         held(Account::Unclaimed, 10_000),
     ];
-    told(&rt, "holders", paid.as_slice(), wanted.as_slice());
+    expect(&rt, "holders", paid.as_slice(), wanted.as_slice());
     Ok(())
 }
 
@@ -180,11 +180,11 @@ fn works_of_many_parties(rt: HostRuntime) -> Result<(), Fail> {
     let (office, sender) = (office()?, sender()?);
     for (row, behind, fault) in BEHIND {
         let song = with_publishers(alloc, behind)?;
-        told(&rt, row, judge(&song, &office), fault);
+        expect(&rt, row, judge(&song, &office), fault);
         let paid = weights(alloc, Kind::Performing, &sender, &song, &office)?;
-        told(&rt, row, paid.len(), PUBLISHERS + 1);
+        expect(&rt, row, paid.len(), PUBLISHERS + 1);
         let wanted = if fault.is_none() { 5_000 } else { 0 };
-        told(&rt, row, weight_at(&paid, PUBLISHERS - 1), Some(wanted));
+        expect(&rt, row, weight_at(&paid, PUBLISHERS - 1), Some(wanted));
     }
     Ok(())
 }

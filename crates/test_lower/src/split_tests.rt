@@ -1,5 +1,5 @@
 //! Pools: the parts and credits of small ones, and of one at the limits.
-use crate::checks::told;
+use crate::checks::expect;
 use pool_split::{Claim, Credit, Holders, are_payable, credits, split};
 use share_rules::Holder;
 use std::alloc::Global;
@@ -11,17 +11,17 @@ use work_ids::{Account, Isrc};
 fn splits(rt: HostRuntime) -> Result<(), Fail> {
     let alloc = rt.alloc();
     let parts = split(alloc, 100, &[1, 1, 1])?;
-    told(&rt, "100", parts.as_slice(), &[34, 33, 33]);
+    expect(&rt, "100", parts.as_slice(), &[34, 33, 33]);
     let parts = split(alloc, 1, &[3333, 3333, 3334])?;
-    told(&rt, "1", parts.as_slice(), &[0, 0, 1]);
+    expect(&rt, "1", parts.as_slice(), &[0, 0, 1]);
     let parts = split(alloc, 3, &[5000, 2500, 2500])?;
-    told(&rt, "3", parts.as_slice(), &[1, 1, 1]);
+    expect(&rt, "3", parts.as_slice(), &[1, 1, 1]);
     let parts = split(alloc, 10_006, &[3335, 3335, 3336, 0])?;
-    told(&rt, "10,006", parts.as_slice(), &[3335, 3335, 3336, 0]);
+    expect(&rt, "10,006", parts.as_slice(), &[3335, 3335, 3336, 0]);
     let parts = split(alloc, 0, &[1, 0])?;
-    told(&rt, "0", parts.as_slice(), &[0, 0]);
+    expect(&rt, "0", parts.as_slice(), &[0, 0]);
     let parts = split(alloc, 1_000_000_000_000, &[1, 999_999_999_999_999_999])?;
-    told(&rt, "most", parts.as_slice(), &[0, 1_000_000_000_000]);
+    expect(&rt, "most", parts.as_slice(), &[0, 1_000_000_000_000]);
     Ok(())
 }
 
@@ -62,7 +62,7 @@ fn recordings_without_owners(rt: HostRuntime) -> Result<(), Fail> {
         unclaimed(Some(claims[0].isrc), 3),
         unclaimed(Some(claims[1].isrc), 7),
     ];
-    told(&rt, "credits", list.as_slice(), wanted.as_slice());
+    expect(&rt, "credits", list.as_slice(), wanted.as_slice());
     Ok(())
 }
 
@@ -71,7 +71,7 @@ fn no_recording(rt: HostRuntime) -> Result<(), Fail> {
     for amount in [0, 5] {
         let list = paid(rt.alloc(), amount, &[])?;
         let wanted = [unclaimed(None, amount)];
-        told(&rt, "no recording", list.as_slice(), wanted.as_slice());
+        expect(&rt, "no recording", list.as_slice(), wanted.as_slice());
     }
     Ok(())
 }
@@ -97,7 +97,7 @@ fn shares_of_one_work(rt: HostRuntime) -> Result<(), Fail> {
         credit(own[1].account, 500),
         credit(Account::Unclaimed, 0),
     ];
-    told(&rt, "credits", list.as_slice(), wanted.as_slice());
+    expect(&rt, "credits", list.as_slice(), wanted.as_slice());
     Ok(())
 }
 
@@ -120,13 +120,13 @@ const SECOND: &str = "GBXYZ2600002";
 
 #[test]
 fn claims_that_can_be_paid(rt: HostRuntime) -> Result<(), Fail> {
-    told(&rt, "no claim", are_payable(&[]), true);
+    expect(&rt, "no claim", are_payable(&[]), true);
     for (row, [first, second], [one, other], wanted) in PAIRS {
         let claims = [
             unowned(first.as_bytes(), one)?,
             unowned(second.as_bytes(), other)?,
         ];
-        told(&rt, row, are_payable(&claims), wanted);
+        expect(&rt, row, are_payable(&claims), wanted);
     }
     Ok(())
 }
@@ -159,7 +159,7 @@ fn holders_that_can_be_paid(rt: HostRuntime) -> Result<(), Fail> {
             false,
         ),
     ] {
-        told(&rt, row, is_payable_with(rt.alloc(), weights)?, wanted);
+        expect(&rt, row, is_payable_with(rt.alloc(), weights)?, wanted);
     }
     Ok(())
 }

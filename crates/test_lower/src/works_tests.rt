@@ -1,5 +1,5 @@
 //! Lines of a sender: a work that is registered and revised twice, with its versions at each cut.
-use crate::checks::told;
+use crate::checks::expect;
 use cwr_files::{Transmission, read_transmission};
 use cwr_records::TransactionKind;
 use std::alloc::Global;
@@ -35,21 +35,33 @@ fn revised_twice(alloc: Global, numbers: [u32; 3]) -> Result<SenderLine, Fail> {
     Ok(line)
 }
 
+/// The verdict on a work that is accepted.
+fn accepted(ordinal: u64, revision: u64) -> Verdict {
+    Verdict::Accepted { ordinal, revision }
+}
+
+/// The version of a work, the first of its transmission.
+fn version(transmission: u32, ordinal: u64, revision: u64) -> Result<WorkVersion, Fail> {
+    Ok(WorkVersion {
+        transmission: number(transmission)?,
+        place: 0,
+        ordinal,
+        revision,
+    })
+}
+
 #[test]
 fn verdicts_of_each_transmission(rt: HostRuntime) -> Result<(), Fail> {
     let alloc = rt.alloc();
     let line = revised_twice(alloc, [1, 2, 3])?;
-    told(&rt, "front", line.front(), 3);
+    expect(&rt, "front", line.front(), 3);
     for (n, revision) in [(1, 0), (2, 1), (3, 2)] {
         let row = format!(in alloc; "transmission {n}")?;
-        let wanted = [Verdict::Accepted {
-            ordinal: 1,
-            revision,
-        }];
+        let wanted = [accepted(1, revision)];
         let verdicts = line.verdicts(number(n)?).ok_or("verdicts")?;
-        told(&rt, &row, verdicts, wanted.as_slice());
+        expect(&rt, &row, verdicts, wanted.as_slice());
     }
-    told(&rt, "none", line.verdicts(number(4)?).is_none(), true);
+    expect(&rt, "none", line.verdicts(number(4)?).is_none(), true);
     Ok(())
 }
 
@@ -59,21 +71,12 @@ fn versions_at_each_cut(rt: HostRuntime) -> Result<(), Fail> {
     let line = revised_twice(alloc, [1, 2, 3])?;
     for (cut, transmission) in [(1, 1), (2, 2), (3, 3), (4, 3)] {
         let row = format!(in alloc; "cut {cut}")?;
-        let wanted = WorkVersion {
-            transmission: number(transmission)?,
-            place: 0,
-            ordinal: 1,
-            revision: u64::from(transmission) - 1,
-        };
-        told(
-            &rt,
-            &row,
-            line.work_at(&work(b"W1")?, number(cut)?),
-            Some(wanted),
-        );
+        let wanted = version(transmission, 1, u64::from(transmission) - 1)?;
+        let seen = line.work_at(&work(b"W1")?, number(cut)?);
+        expect(&rt, &row, seen, Some(wanted));
     }
     let other = line.work_at(&work(b"W2")?, number(3)?);
-    told(&rt, "W2", other, None);
+    expect(&rt, "W2", other, None);
     Ok(())
 }
 
@@ -81,28 +84,15 @@ fn versions_at_each_cut(rt: HostRuntime) -> Result<(), Fail> {
 fn numbers_that_do_not_follow_one_another(rt: HostRuntime) -> Result<(), Fail> {
     let alloc = rt.alloc();
     let line = revised_twice(alloc, [4, 9, 20])?;
-    told(&rt, "front", line.front(), 20);
-    let wanted = [Verdict::Accepted {
-        ordinal: 1,
-        revision: 1,
-    }];
+    expect(&rt, "front", line.front(), 20);
+    let wanted = [accepted(1, 1)];
     let verdicts = line.verdicts(number(9)?).ok_or("verdicts")?;
-    told(&rt, "second", verdicts, wanted.as_slice());
-    told(&rt, "none", line.verdicts(number(2)?).is_none(), true);
-    let (early, between) = (number(3)?, number(19)?);
-    let version = WorkVersion {
-        transmission: number(9)?,
-        place: 0,
-        ordinal: 1,
-        revision: 1,
-    };
-    told(&rt, "early", line.work_at(&work(b"W1")?, early), None);
-    told(
-        &rt,
-        "between",
-        line.work_at(&work(b"W1")?, between),
-        Some(version),
-    );
+    expect(&rt, "second", verdicts, wanted.as_slice());
+    expect(&rt, "none", line.verdicts(number(2)?).is_none(), true);
+    let early = line.work_at(&work(b"W1")?, number(3)?);
+    expect(&rt, "early", early, None);
+    let between = line.work_at(&work(b"W1")?, number(19)?);
+    expect(&rt, "between", between, Some(version(9, 1, 1)?));
     Ok(())
 }
 
@@ -121,12 +111,12 @@ const CUTS_BY_YEAR: [(u32, Option<(u32, u64)>); 7] = [
 fn versions_at_cuts_by_year(rt: HostRuntime) -> Result<(), Fail> {
     let alloc = rt.alloc();
     let line = revised_twice(alloc, [2, 1_260_001, 1_270_001])?;
-    told(&rt, "front", line.front(), 1_270_001);
+    expect(&rt, "front", line.front(), 1_270_001);
     for (cut, wanted) in CUTS_BY_YEAR {
         let row = format!(in alloc; "cut {cut}")?;
         let version = line.work_at(&work(b"W1")?, number(cut)?);
         let seen = version.map(|it| (it.transmission.value(), it.revision));
-        told(&rt, &row, seen, wanted);
+        expect(&rt, &row, seen, wanted);
     }
     Ok(())
 }
@@ -144,7 +134,7 @@ fn isrcs_of_a_transaction(rt: HostRuntime) -> Result<(), Fail> {
     let [isrc] = list.as_slice() else {
         return Err(Fail::from("one ISRC"));
     };
-    told(&rt, "ISRC", isrc.as_bytes(), b"ATABC2600001");
+    expect(&rt, "ISRC", isrc.as_bytes(), b"ATABC2600001");
     Ok(())
 }
 
@@ -152,13 +142,7 @@ fn isrcs_of_a_transaction(rt: HostRuntime) -> Result<(), Fail> {
 fn the_end_of_a_line_goes_on(rt: HostRuntime) -> Result<(), Fail> {
     let (first, second) = (work(b"W1")?, work(b"W2")?);
     let mut end = LineEnd::new(rt.alloc(), 7);
-    let last = WorkVersion {
-        transmission: number(3)?,
-        place: 0,
-        ordinal: 4,
-        revision: 2,
-    };
-    end.learn(first, Some(last))?;
+    end.learn(first, Some(version(3, 4, 2)?))?;
     end.learn(second, None)?;
     let transactions = [
         Judged::Clean(TransactionKind::Rev, first),
@@ -168,7 +152,6 @@ fn the_end_of_a_line_goes_on(rt: HostRuntime) -> Result<(), Fail> {
         Judged::Faulty(9),
     ];
     let verdicts = end.apply(rt.alloc(), number(5)?, transactions.as_slice())?;
-    let accepted = |ordinal, revision| Verdict::Accepted { ordinal, revision };
     let wanted = [
         accepted(4, 3),
         accepted(8, 0),
@@ -176,8 +159,8 @@ fn the_end_of_a_line_goes_on(rt: HostRuntime) -> Result<(), Fail> {
         Verdict::Rejected(20),
         Verdict::Rejected(9),
     ];
-    told(&rt, "verdicts", verdicts.as_slice(), wanted.as_slice());
-    told(&rt, "works", end.works(), 8);
+    expect(&rt, "verdicts", verdicts.as_slice(), wanted.as_slice());
+    expect(&rt, "works", end.works(), 8);
     Ok(())
 }
 
@@ -186,6 +169,6 @@ fn what_is_judged_of_a_transmission(rt: HostRuntime) -> Result<(), Fail> {
     let transmission = read(rt.alloc(), REVISED)?;
     let judged = judge_all(rt.alloc(), &transmission, &office()?)?;
     let wanted = [Judged::Clean(TransactionKind::Rev, work(b"W1")?)];
-    told(&rt, "judged", judged.as_slice(), wanted.as_slice());
+    expect(&rt, "judged", judged.as_slice(), wanted.as_slice());
     Ok(())
 }

@@ -1,7 +1,7 @@
 //! What is said of a stream that broke off, and of arguments that could not be had.
 use crate::checks::{holds, is_status, is_text};
 use http_desk::{DeskFault, FaultKind};
-use society_commands::{NoWords, ended, report, why_no_words};
+use society_commands::{NoWords, exit_status, report, why_no_words};
 use std::io::ErrorKind;
 use std::test::Fail;
 
@@ -35,7 +35,7 @@ fn words_that_cannot_be_had(rt: HostRuntime) -> Result<(), Fail> {
     for (kind, why, status) in rows {
         let found = why_no_words(&kind.into());
         holds(&rt, "why there are no words", found == why);
-        is_status(&rt, "no words", ended(Err(why), &mut err), status);
+        is_status(&rt, "no words", exit_status(Err(why), &mut err), status);
     }
     let lines = b"society: bad words\nsociety: memory fault after 0 requests\n";
     is_text(&rt, "the line of each", &err, lines);

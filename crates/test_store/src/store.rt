@@ -7,8 +7,8 @@ use cwr_files::FileReader;
 use pool_split::Credit;
 use share_rules::Office;
 use society_core::{
-    Known, KnownEnd, KnownTransmission, Payment, Place, PoolOrder, ReturnKey, SenderStatus, Store,
-    StoreFault, Work,
+    Known, KnownEnd, KnownTransmission, NumberPlace, Payment, PoolOrder, ReturnKey, SenderStatus,
+    Store, StoreFault, Work,
 };
 use std::alloc::Global;
 use work_ids::{Account, PoolNumber, SegmentEnd, SenderKey, TransmissionNumber, WorkNumber};
@@ -60,7 +60,7 @@ impl Store for FailingStore {
         &self.office
     }
 
-    fn known(
+    fn known_transmission(
         &mut self,
         _sender: &SenderKey,
         _number: TransmissionNumber,
@@ -82,7 +82,7 @@ impl Store for FailingStore {
         &mut self,
         _sender: &SenderKey,
         _number: TransmissionNumber,
-    ) -> Result<Place, StoreFault> {
+    ) -> Result<NumberPlace, StoreFault> {
         self.refuse()
     }
 
@@ -149,7 +149,7 @@ impl Store for FailingStore {
         _alloc: Global,
         _number: TransmissionNumber,
         _reader: FileReader,
-    ) -> Result<Place, StoreFault> {
+    ) -> Result<NumberPlace, StoreFault> {
         self.refuse()
     }
 

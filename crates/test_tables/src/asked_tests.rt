@@ -3,7 +3,7 @@ ghost use Rattle.std.specs.Prelude.{◌+◌, ◌≡◌};
 ghost use Rattle.society_rows.specs.declared.fault.RowFault.TheVariants.{Memory};
 
 use crate::book::{SENDER, book, shown};
-use crate::checks::told;
+use crate::checks::expect;
 use crate::writes::{BOOK, ENDS, FRONTS, WORKS, write_all};
 use memory_store::MemoryStore;
 use society_rows::{Idle, Question, RowFault, RowFold, ask, fold_run};
@@ -70,7 +70,7 @@ fn check_counts<S: Alter>(rt: &impl Abort, conn: &mut Idle<S>) -> Result<(), Fai
         ("from 0", 0, 0),
     ] {
         let name = "a_run_ends_at_the_first_gap";
-        told(rt, name, (row, run_from(conn, first)?), (row, wanted));
+        expect(rt, name, (row, run_from(conn, first)?), (row, wanted));
     }
     Ok(())
 }
@@ -112,7 +112,7 @@ fn check_questions<S: Alter>(
 ) -> Result<(), Fail> {
     for (row, question, wanted) in QUESTIONS {
         let text = shown(alloc, ask(conn, question)?)?;
-        told(rt, row, text.as_str(), wanted);
+        expect(rt, row, text.as_str(), wanted);
     }
     Ok(())
 }

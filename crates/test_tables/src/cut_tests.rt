@@ -1,7 +1,7 @@
 //! The candidates of a pool, out of tables to which works of two senders have come.
 ghost use Rattle.std.specs.Prelude.{◌≡◌};
 
-use crate::checks::told;
+use crate::checks::expect;
 use crate::left::{office, without_tables};
 use cwr_files::FileReader;
 use perf_returns::read_return;
@@ -143,7 +143,7 @@ fn candidates_at_cuts(rt: HostRuntime) -> Result<(), Fail> {
     for (row, cut, wanted) in CUTS {
         let candidates = found(alloc, &mut conn, &office, cut)?;
         let seen = shown(alloc, &candidates)?;
-        told(&rt, row, &seen.as_str(), &wanted);
+        expect(&rt, row, &seen.as_str(), &wanted);
     }
     Ok(())
 }

@@ -1,9 +1,9 @@
 //! Databases in memory that are audited, and stores that are found again.
 ghost use Rattle.std.specs.Prelude.{◌≡◌};
 
-use crate::checks::told;
+use crate::checks::expect;
 use crate::left::{
-    CLOSED_AT_A_CUT, ONE_WAITS, Opened, REVISIONS, YEAR_BEGUN, left_by, office, opened,
+    CLOSED_AT_A_CUT, ONE_WAITS, Opened, REVISIONS, Step, YEAR_BEGUN, left_by, office, opened,
 };
 use book_audit::{AuditFault, audit};
 use book_derivation::derive;
@@ -16,6 +16,14 @@ use std::alloc::Global;
 use std::process::Abort;
 use std::test::Fail;
 use test_bodies::{number, sender};
+
+/// Databases by what was sent to their office.
+const DATABASES: [(&str, &[Step]); 4] = [
+    ("a number waits", ONE_WAITS),
+    ("files without works, a pool", CLOSED_AT_A_CUT),
+    ("a number of a year", YEAR_BEGUN),
+    ("revisions of one and of two digits", REVISIONS),
+];
 
 // What is done over a store is done over any: over a store by its name each call takes a minute to prove.
 
@@ -31,7 +39,7 @@ fn check_front<S: Alter + Drop>(
     };
     let place = tables.place(&sender()?, number(1)?);
     let place = place.ok().ok_or("a place")?;
-    told(rt, row, &place.front, &wanted);
+    expect(rt, row, &place.front, &wanted);
     Ok(())
 }
 
@@ -63,16 +71,11 @@ fn is_sound(found: Result<(), AuditFault>) -> Result<bool, Fail> {
 #[test]
 fn a_sound_database_passes_an_audit_and_a_stray_row_is_damage(rt: HostRuntime) -> Result<(), Fail> {
     let alloc = rt.alloc();
-    for (row, steps) in [
-        ("a number waits", ONE_WAITS),
-        ("files without works, a pool", CLOSED_AT_A_CUT),
-        ("a number of a year", YEAR_BEGUN),
-        ("revisions of one and of two digits", REVISIONS),
-    ] {
+    for (row, steps) in DATABASES {
         let Ok(mut conn) = Idle::new(left_by(alloc, steps)?) else {
             return Err(Fail::new("no transaction"));
         };
-        told(&rt, row, &audited(alloc, &mut conn)?, &(true, false));
+        expect(&rt, row, &audited(alloc, &mut conn)?, &(true, false));
     }
     Ok(())
 }
@@ -112,16 +115,11 @@ fn derived_again<S: Alter>(alloc: Global, conn: &mut Idle<S>) -> Result<(bool, b
 #[test]
 fn what_is_derived_again_is_sound(rt: HostRuntime) -> Result<(), Fail> {
     let alloc = rt.alloc();
-    for (row, steps) in [
-        ("a number waits", ONE_WAITS),
-        ("files without works, a pool", CLOSED_AT_A_CUT),
-        ("a number of a year", YEAR_BEGUN),
-        ("revisions of one and of two digits", REVISIONS),
-    ] {
+    for (row, steps) in DATABASES {
         let Ok(mut conn) = Idle::new(left_by(alloc, steps)?) else {
             return Err(Fail::new("no transaction"));
         };
-        told(&rt, row, &derived_again(alloc, &mut conn)?, &(false, true));
+        expect(&rt, row, &derived_again(alloc, &mut conn)?, &(false, true));
     }
     Ok(())
 }
@@ -162,7 +160,7 @@ fn refused<S: Alter + Drop>(
 ) -> Result<Connection<S>, Fail> {
     match opened(alloc, left, other)? {
         Err((fault, conn)) => {
-            told(rt, row, fault, OpenFault::OtherOffice);
+            expect(rt, row, fault, OpenFault::OtherOffice);
             Ok(conn)
         }
         Ok(_) => Err(Fail::new("another office")),

@@ -1,6 +1,6 @@
 //! Rows are read back as they were written, in a transaction of a new book in memory.
 use crate::book::{SENDER, book};
-use crate::checks::told;
+use crate::checks::expect;
 use crate::lists::{
     CREDIT_0, CREDIT_1, CREDIT_2, RECORDING_0, RECORDING_1, RECORDING_2, VERDICT_0, VERDICT_1,
     VERDICT_2, VERDICT_3, VERDICT_4, VERDICT_5, VERSION_0, VERSION_1, VERSION_2,
@@ -211,11 +211,11 @@ fn check<S: Alter>(
     for (what, is_too_great) in case.refused {
         let fault = write_one(tx, *what).err();
         let seen = (fault.is_some(), fault == Some(RowFault::Overflow));
-        told(rt, case.name, seen, (true, *is_too_great));
+        expect(rt, case.name, seen, (true, *is_too_great));
     }
     for (reads, wanted) in case.read {
         let text = read_all(tx, alloc, reads)?;
-        told(rt, case.name, text.as_str(), *wanted);
+        expect(rt, case.name, text.as_str(), *wanted);
     }
     Ok(())
 }
@@ -252,7 +252,7 @@ fn check_typed<S: Alter>(rt: &impl Abort, tx: &mut Transaction<'_, S>) -> Result
         ("pool", Typed::Mechanical),
     ] {
         let name = "rows_are_read_typed";
-        told(rt, name, (row, is_there(tx, what)?), (row, true));
+        expect(rt, name, (row, is_there(tx, what)?), (row, true));
     }
     for (row, table) in [
         ("office", TableName::Office),
@@ -264,7 +264,7 @@ fn check_typed<S: Alter>(rt: &impl Abort, tx: &mut Transaction<'_, S>) -> Result
         ("mechanical pools", TableName::MechanicalPools),
     ] {
         let name = "rows_that_were_written_are_numbered";
-        told(rt, name, (row, are_numbered(tx, table)?), (row, true));
+        expect(rt, name, (row, are_numbered(tx, table)?), (row, true));
     }
     Ok(())
 }
@@ -282,7 +282,7 @@ fn check_misread<S: Alter>(rt: &impl Abort, tx: &mut Transaction<'_, S>) -> Resu
         };
         let name = "a_column_of_no_segment_is_not_read";
         let is_misread = SegmentEndRow::from_row(row).is_err();
-        told(rt, name, (change, is_misread), (change, true));
+        expect(rt, name, (change, is_misread), (change, true));
     }
     Ok(())
 }

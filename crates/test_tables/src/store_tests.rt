@@ -1,6 +1,6 @@
 //! A database in memory that holds many rows, in no order, goes back, and loses rows and tables.
 use crate::book::{empty, shown};
-use crate::checks::told;
+use crate::checks::expect;
 use society_rows::RowFault;
 use sqlite::{Alter, Connection, Transaction, params};
 use std::alloc::{AllocError, Global};
@@ -100,14 +100,14 @@ fn check_orders<S: Alter>(
     }
     let mut tx = conn.transaction();
     let up = "SELECT number FROM scattered ORDER BY name, number";
-    told(
+    expect(
         rt,
         up,
         asked(alloc, &mut tx, up)?.as_str(),
         numbers(alloc, true)?.as_str(),
     );
     let down = "SELECT number FROM scattered ORDER BY name DESC, number DESC";
-    told(
+    expect(
         rt,
         down,
         asked(alloc, &mut tx, down)?.as_str(),
@@ -115,7 +115,7 @@ fn check_orders<S: Alter>(
     );
     let one =
         "SELECT number FROM scattered WHERE name = 'a' AND number <= 600 ORDER BY number DESC LIMIT 1";
-    told(rt, one, asked(alloc, &mut tx, one)?.as_str(), "600|;");
+    expect(rt, one, asked(alloc, &mut tx, one)?.as_str(), "600|;");
     tx.rollback();
     Ok(())
 }
@@ -131,13 +131,13 @@ fn check_changes<S: Alter>(
     }
     let mut tx = conn.transaction();
     for (statement, is_refused, wanted) in CHANGES {
-        told(
+        expect(
             rt,
             statement,
             tx.execute_batch(statement).is_err(),
             is_refused,
         );
-        told(
+        expect(
             rt,
             statement,
             asked(alloc, &mut tx, COUNTED)?.as_str(),
@@ -157,7 +157,7 @@ fn check_after<S: Alter>(
         return Err(Fail::new("no transaction"));
     }
     let mut tx = conn.transaction();
-    told(
+    expect(
         rt,
         "after all",
         asked(alloc, &mut tx, COUNTED)?.as_str(),

@@ -1,11 +1,13 @@
 //! What the calls of a store answer that bytes do not show as they are: over tables in memory, and over the plain store.
-use crate::checks::told;
+use crate::checks::expect;
 use crate::left::{
     File, Opened, Step, first_return, office, opened, order, send_all, without_tables,
 };
 use pool_split::Credit;
 use share_rules::Kind;
-use society_core::{Desk, Known, KnownTransmission, Payment, Place, PlainStore, Refusal, Store};
+use society_core::{
+    Desk, Known, KnownTransmission, NumberPlace, Payment, PlainStore, Refusal, Store,
+};
 use sqlite::Alter;
 use std::alloc::Global;
 use std::process::Abort;
@@ -46,31 +48,31 @@ fn ask<S: Store>(
     let (sender, key) = (sender()?, first_return()?);
     match row {
         Row::Known(rank, file, wanted) => {
-            let seen = store.known(&sender, number(rank)?, file.as_bytes());
-            told(rt, name, &seen, &Ok(wanted));
+            let seen = store.known_transmission(&sender, number(rank)?, file.as_bytes());
+            expect(rt, name, &seen, &Ok(wanted));
         }
         Row::Place(rank, front, is_applied) => {
             let seen = store.place(&sender, number(rank)?);
-            told(rt, name, &seen, &Ok(Place { front, is_applied }));
+            expect(rt, name, &seen, &Ok(NumberPlace { front, is_applied }));
         }
         Row::Verdicts(rank, wanted) => {
             let seen = store.verdicts(alloc, &sender, number(rank)?);
             let seen = seen.ok().ok_or("verdicts or none")?;
-            told(rt, name, &seen.as_ref().map(|all| all.as_slice()), &wanted);
+            expect(rt, name, &seen.as_ref().map(|all| all.as_slice()), &wanted);
         }
         Row::KnownReturn(body, wanted) => {
-            told(rt, name, &store.known_return(&key, body), &Ok(wanted));
+            expect(rt, name, &store.known_return(&key, body), &Ok(wanted));
         }
-        Row::NoReturn => told(rt, name, &store.payment(&key), &Ok(Payment::Unknown)),
-        Row::Unpaid => told(rt, name, &store.payment(&key), &Ok(Payment::Unpaid)),
+        Row::NoReturn => expect(rt, name, &store.payment(&key), &Ok(Payment::Unknown)),
+        Row::Unpaid => expect(rt, name, &store.payment(&key), &Ok(Payment::Unpaid)),
         Row::Paid(pool) => {
             let pool = PoolNumber::from_u32(pool).ok_or("a pool")?;
-            told(rt, name, &store.payment(&key), &Ok(Payment::Paid(pool)));
+            expect(rt, name, &store.payment(&key), &Ok(Payment::Paid(pool)));
         }
         Row::KnownPool(pool, kind, amount, cut, wanted) => {
             let pool = PoolNumber::from_u32(pool).ok_or("a pool")?;
             let seen = store.known_pool(pool, &order(alloc, kind, amount, cut)?);
-            told(rt, name, &seen, &Ok(wanted));
+            expect(rt, name, &seen, &Ok(wanted));
         }
     }
     Ok(())
@@ -85,12 +87,12 @@ const TEN_PLAYS: &[u8] = b"isrc,plays,seconds\nATABC2600001,10,200\n";
 const ELEVEN_PLAYS: &[u8] = b"isrc,plays,seconds\nATABC2600001,11,200\n";
 
 /// A number that stands in the line, and one that does not, where the front is 3.
-const APPLIED: Place = Place {
+const APPLIED: NumberPlace = NumberPlace {
     front: 3,
     is_applied: true,
 };
 
-const HELD: Place = Place {
+const HELD: NumberPlace = NumberPlace {
     front: 3,
     is_applied: false,
 };
@@ -235,7 +237,7 @@ fn check_credits<S: Store>(
     let pool = PoolNumber::from_u32(7).ok_or("a pool")?;
     let seen = desk.credits(alloc, pool);
     let Some(shares) = shares else {
-        told(rt, "no credits", &seen.err(), &Some(Refusal::Unknown));
+        expect(rt, "no credits", &seen.err(), &Some(Refusal::Unknown));
         return Ok(());
     };
     let mut wanted = Vec::new(alloc);
@@ -247,7 +249,7 @@ fn check_credits<S: Store>(
         })?;
     }
     let seen = seen.ok().ok_or("credits")?;
-    told(rt, "credits", &seen.as_slice(), &wanted.as_slice());
+    expect(rt, "credits", &seen.as_slice(), &wanted.as_slice());
     Ok(())
 }
 

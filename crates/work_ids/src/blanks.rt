@@ -27,7 +27,7 @@ fn without_leading_blanks(bytes: &[u8]) -> &[u8]
 
 /// The bytes without the blanks at both ends.
 #[tactic(auto, unfolding(crate::specs::Blanks::trimmed))]
-pub fn trimmed(bytes: &[u8]) -> &[u8]
+pub fn trim(bytes: &[u8]) -> &[u8]
     ensures { result.now ≡ trimmed bytes.now }
 {
     without_leading_blanks(without_trailing_blanks(bytes))
@@ -48,7 +48,7 @@ pub fn are_blank(bytes: &[u8]) -> bool
 }
 
 /// The bytes, at most `WIDTH` of them, filled with blanks to `WIDTH`.
-pub fn filled<const WIDTH: usize>(bytes: &[u8]) -> [u8; WIDTH]
+pub fn fill<const WIDTH: usize>(bytes: &[u8]) -> [u8; WIDTH]
     requires { length bytes.now ≤ WIDTH }
     ensures { result ≡ fill WIDTH bytes.now }
 {

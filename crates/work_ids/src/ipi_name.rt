@@ -4,7 +4,7 @@ ghost use Rattle.std.specs.List.{list_all};
 ghost use Rattle.work_ids.specs.IpiName.{eleven_digits, ipi_field_of, is_ipi_name, is_ipi_number, is_zero};
 
 use crate::IdFault;
-use crate::blanks::trimmed;
+use crate::blanks::trim;
 use crate::characters::are_digits;
 use std::marker::Model;
 
@@ -72,7 +72,7 @@ impl IpiName {
     pub fn from_field(field: &[u8]) -> Result<Option<IpiName>, IdFault>
         ensures { result ≡ ipi_field_of field.now }
     {
-        let digits = trimmed(field);
+        let digits = trim(field);
         if digits.len() > IPI_NAME_LENGTH {
             return Err(IdFault::Length);
         }

@@ -6,7 +6,7 @@ ghost use Rattle.work_ids.specs.Characters.{is_printable};
 ghost use Rattle.work_ids.specs.PartyNumber.{begins_printed, is_party_number, party_number_of};
 
 use crate::IdFault;
-use crate::blanks::{are_blank, filled, trimmed, without_trailing_blanks};
+use crate::blanks::{are_blank, fill, trim, without_trailing_blanks};
 use crate::characters::are_printable;
 use std::marker::Model;
 
@@ -43,7 +43,7 @@ impl PartyNumber {
         ensures { result ≡ fill 9 number.now }
     {
         PartyNumber {
-            bytes: filled(number),
+            bytes: fill(number),
         }
     }
 
@@ -53,7 +53,7 @@ impl PartyNumber {
     pub fn from_field(field: &[u8]) -> Result<PartyNumber, IdFault>
         ensures { result ≡ party_number_of field.now }
     {
-        let number = trimmed(field);
+        let number = trim(field);
         if number.len() > PARTY_NUMBER_LENGTH {
             return Err(IdFault::Length);
         }

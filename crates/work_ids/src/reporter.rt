@@ -4,7 +4,7 @@ ghost use Rattle.work_ids.specs.Blanks.{without_trailing_blanks};
 ghost use Rattle.work_ids.specs.Reporter.{reporter_of};
 
 use crate::IdFault;
-use crate::blanks::{filled, without_trailing_blanks};
+use crate::blanks::{fill, without_trailing_blanks};
 use crate::characters::are_capitals_or_digits;
 use std::marker::Model;
 
@@ -46,9 +46,7 @@ impl Reporter {
         if !are_capitals_or_digits(bytes) {
             return Err(IdFault::Character);
         }
-        Ok(Reporter {
-            bytes: filled(bytes),
-        })
+        Ok(Reporter { bytes: fill(bytes) })
     }
 
     /// The bytes without the blanks behind them, 1 to 20; `from_bytes` reads them back as the same reporter.

@@ -4,7 +4,7 @@ ghost use Rattle.work_ids.specs.Blanks.{without_trailing_blanks};
 ghost use Rattle.work_ids.specs.WorkNumber.{work_number_of};
 
 use crate::IdFault;
-use crate::blanks::{filled, without_trailing_blanks};
+use crate::blanks::{fill, without_trailing_blanks};
 use crate::characters::are_printable;
 use std::marker::Model;
 
@@ -48,7 +48,7 @@ impl WorkNumber {
             return Err(IdFault::Character);
         }
         Ok(WorkNumber {
-            bytes: filled(number),
+            bytes: fill(number),
         })
     }
 

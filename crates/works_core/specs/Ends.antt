@@ -12,7 +12,7 @@ use Rattle.works_core.specs.declared.judged.Judged.TheVariants.{Clean, Faulty}
 use Rattle.works_core.specs.declared.line_end.LineEnd.{LineEnd}
 use Rattle.works_core.specs.declared.verdict.Verdict.{Verdict}
 use Rattle.works_core.specs.declared.version.WorkVersion.{WorkVersion}
-use Rattle.works_core.specs.declared.works.Place.{Place}
+use Rattle.works_core.specs.declared.works.TransactionPlace.{TransactionPlace}
 
 -- the last version that is kept of a work
 abbrev pub last_in : LineEnd → List ℕ → Option WorkVersion
@@ -60,7 +60,7 @@ TellsNext end judged verdict = (known : List ℕ → Bool) (past : List Placed) 
     → verdict ≡ verdict_of (judged_of past) judged
 
 -- an end goes on by one transaction, which stands at a place: where its work is known there, the new end is the one behind it
-abbrev pub EndsBehindOne : LineEnd → Place → Judged → LineEnd → Type 0
+abbrev pub EndsBehindOne : LineEnd → TransactionPlace → Judged → LineEnd → Type 0
 EndsBehindOne end place judged new = (known : List ℕ → Bool) (past : List Placed) → EndsAt known past end → KnowsWork known judged
     → EndsAt known (placed_in place judged ∷ past) new
 

@@ -9,7 +9,7 @@ use Rattle.works_core.specs.declared.judged.Judged.{Judged}
 use Rattle.works_core.specs.declared.judged.Judged.TheVariants.{Clean, Faulty}
 use Rattle.works_core.specs.declared.key.WorkKey.{WorkKey}
 use Rattle.works_core.specs.declared.version.LinkedVersion.{LinkedVersion}
-use Rattle.works_core.specs.declared.works.Place.{Place}
+use Rattle.works_core.specs.declared.works.TransactionPlace.{TransactionPlace}
 use Rattle.works_core.specs.declared.works.Works.{Works}
 
 -- a work number as a key
@@ -25,7 +25,7 @@ abbrev pub kept_index : Works → List ℕ → Option ℕ
 kept_index works work = get same_key works.last (work_key_of work)
 
 -- a transaction that stands at a place
-abbrev pub placed_in : Place → Judged → Placed
+abbrev pub placed_in : TransactionPlace → Judged → Placed
 placed_in place judged = placed_at place.transmission place.place judged
 
 -- the work number of a clean transaction

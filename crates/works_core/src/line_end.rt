@@ -9,7 +9,7 @@ use crate::judged::Judged;
 use crate::key::WorkKey;
 use crate::verdict::{Verdict, next_verdict};
 use crate::version::WorkVersion;
-use crate::works::Place;
+use crate::works::TransactionPlace;
 use cwr_records::TransactionKind;
 use std::alloc::{AllocError, AllocFailed, Global};
 use std::collections::HashMap;
@@ -61,7 +61,7 @@ fn verdict_within(
     last: Option<WorkVersion>,
     works: u64,
 ) -> Result<Verdict, LineFault>
-    ensures told { IfOk result (λ verdict. verdict ≡ next_verdict judged.now last works) }
+    ensures value { IfOk result (λ verdict. verdict ≡ next_verdict judged.now last works) }
     ensures room { IfOk result (λ _. works < 2 ^ 63) }
 {
     if let Some(version) = &last {
@@ -113,7 +113,7 @@ impl LineEnd {
     }
 
     // What is known of a transaction's work.
-    fn known(&self, judged: &Judged) -> Option<WorkVersion>
+    fn known_version(&self, judged: &Judged) -> Option<WorkVersion>
         ensures { result ≡ known_version self.now judged.now }
     {
         match *judged {
@@ -139,11 +139,11 @@ impl LineEnd {
     }
 
     // The verdict of the next transaction, behind which the line then ends.
-    fn settle(&mut self, place: Place, judged: &Judged) -> Result<Verdict, LineFault>
+    fn settle(&mut self, place: TransactionPlace, judged: &Judged) -> Result<Verdict, LineFault>
         ensures verdict { IfOk result (TellsNext self.old judged.now) }
         ensures ends { OnOk result (EndsBehindOne self.old place judged.now self.new) }
     {
-        let verdict = verdict_within(judged, self.known(judged), self.works)?;
+        let verdict = verdict_within(judged, self.known_version(judged), self.works)?;
         match verdict {
             Verdict::Accepted { ordinal, revision } => {
                 let version = place.version(ordinal, revision);
@@ -167,7 +167,7 @@ impl LineEnd {
     {
         let mut verdicts = Vec::with_capacity(alloc, transactions.len())?;
         for (place, judged) in transactions.iter().enumerate() {
-            let here = Place {
+            let here = TransactionPlace {
                 transmission: number,
                 place,
             };

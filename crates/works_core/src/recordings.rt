@@ -1,5 +1,5 @@
 //! The recordings that a transaction names.
-ghost use Rattle.std.specs.Prelude.{◌≡◌, ◌++◌, IfOk};
+ghost use Rattle.std.specs.Prelude.{◌≡◌, IfOk};
 ghost use Rattle.works_core.specs.Recordings.{isrcs_of};
 
 use cwr_files::Transaction;

@@ -11,7 +11,7 @@ use crate::judged::Judged;
 use crate::key::WorkKey;
 use crate::verdict::Verdict;
 use crate::version::WorkVersion;
-use crate::works::{Place, Works};
+use crate::works::{TransactionPlace, Works};
 use cwr_files::{Group, Transaction, Transmission};
 use share_rules::{Office, judge};
 use std::alloc::{AllocError, Global};
@@ -47,7 +47,7 @@ impl Model for SenderLine {
 }
 
 // What an office judges of a transaction.
-fn judged(transaction: &Transaction<'_>, office: &Office) -> Judged
+fn judge_transaction(transaction: &Transaction<'_>, office: &Office) -> Judged
     ensures { result ≡ judged office.now transaction.now }
 {
     match judge(transaction, office) {
@@ -68,7 +68,7 @@ fn append_judged(
     ensures { OnOk result (list.new.items ≡ list.old.items ++ map (judged office.now) transactions.now) }
 {
     for transaction in transactions {
-        list.push(judged(transaction, office))?;
+        list.push(judge_transaction(transaction, office))?;
     }
     Ok(())
 }
@@ -113,7 +113,7 @@ fn settle_all(
     ensures tracks { (past : List Placed) → Tracks works.old past → Tracks works.new (placed_behind past transmission 0 transactions.now) }
 {
     for (place, judged) in transactions.iter().enumerate() {
-        let here = Place {
+        let here = TransactionPlace {
             transmission,
             place,
         };

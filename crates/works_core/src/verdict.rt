@@ -28,7 +28,7 @@ pub enum Verdict {
 pub fn next_verdict(judged: &Judged, last: Option<WorkVersion>, works: u64) -> Verdict
     requires counted { works < 2 ^ 63 }
     requires revised { IfSome last (λ v. v.revision < 2 ^ 63) }
-    ensures told { result ≡ next_verdict judged.now last works }
+    ensures value { result ≡ next_verdict judged.now last works }
     ensures verdict { (past : List Placed) → last ≡ last_version (number_in judged.now) past → works ≡ works_in (judged_of past) → result ≡ verdict_of (judged_of past) judged.now }
 {
     told_by(judged, last, works)

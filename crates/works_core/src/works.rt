@@ -18,12 +18,12 @@ use work_ids::{TransmissionNumber, WorkNumber};
 
 /// Where a transaction stands: its transmission's number, and its place there from 0.
 #[derive(Clone, Copy)]
-pub struct Place {
+pub struct TransactionPlace {
     pub transmission: TransmissionNumber,
     pub place: usize,
 }
 
-impl Place {
+impl TransactionPlace {
     /// The version that the transaction there is.
     pub fn version(self, ordinal: u64, revision: u64) -> WorkVersion
         ensures { result ≡ record { transmission = self.transmission; place = self.place; ordinal = ordinal; revision = revision } }
@@ -65,7 +65,7 @@ impl Works {
     }
 
     /// The verdict of the next transaction, which is taken into the works.
-    pub fn settle(&mut self, place: Place, judged: &Judged) -> Verdict
+    pub fn settle(&mut self, place: TransactionPlace, judged: &Judged) -> Verdict
         requires tracked { IsTracked self.old }
         requires room { HasRoomFor 1 self.old }
         ensures verdict { (past : List Placed) → Tracks self.old past → result ≡ verdict_of (judged_of past) judged.now }
@@ -79,7 +79,12 @@ impl Works {
     }
 
     // The verdict of a clean transaction, by the last version of its work.
-    fn settle_clean(&mut self, place: Place, kind: TransactionKind, work: WorkNumber) -> Verdict
+    fn settle_clean(
+        &mut self,
+        place: TransactionPlace,
+        kind: TransactionKind,
+        work: WorkNumber,
+    ) -> Verdict
         requires tracked { IsTracked self.old }
         requires room { HasRoomFor 1 self.old }
         ensures verdict { (past : List Placed) → Tracks self.old past → result ≡ verdict_of (judged_of past) (Clean kind work) }

@@ -1,41 +1,26 @@
 -- Facts on fields: blanks, fills and digits.
-use Rattle.std.proofs.Common.{◌≡◌, ℕ, ◌+◌, ◌-◌, ◌<◌, ◌≤◌, Bool, true, false, eqb, ◌&&◌, List, [], ◌∷◌, ◌++◌, length, take, drop, replicate, None, refl, ap, sym, ◌∙◌, arith, suc, zero, min, IsTrue, ◌↔◌}
+use Rattle.std.proofs.Common.{◌≡◌, ℕ, ◌+◌, ◌-◌, ◌<◌, ◌≤◌, Bool, true, false, ◌&&◌, List, [], ◌∷◌, ◌++◌, length, take, drop, replicate, None, refl, ap, sym, ◌∙◌, arith, suc, zero, min, IsTrue, ◌↔◌}
 use Rattle.std.specs.List.{prefix_len, suffix_len}
 use Rattle.work_ids.specs.Blanks.{is_blank_byte, trimmed, without_leading_blanks, without_trailing_blanks}
-use Rattle.std.proofs.lemmas.Bool.Decides.{nat_tests}
 use Rattle.std.specs.List.{list_all}
 use Rattle.std.proofs.lemmas.List.{append-nil, append_assoc, replicate-append-replicate, take-append-le, reverse-append, take_at, drop_at, take-append-drop, length-append, length-replicate, length-drop, length-take, take_min, drop_min}
+use Rattle.std.proofs.Math.Bool.{and-false, and-true}
 use Rattle.std.proofs.lemmas.List.Folds.{list_all-append}
+use Rattle.std.proofs.lemmas.List.Sums.{AllPass-from_list_all}
+use Rattle.work_ids.proofs.lemmas.Trailing.{copies_pass, replicated}
 use Rattle.cwr_records.specs.Lines.{is_blank, fill_field, field}
 use Rattle.work_ids.specs.Characters.{is_digit}
 use Rattle.work_ids.specs.Digits.{decimal_value}
 
-and-true : (b : Bool) → (b && true) ≡ b
-and-true true = refl
-and-true false = refl
-
-and-false : (b : Bool) → (b && false) ≡ false
-and-false true = refl
-and-false false = refl
-
 -- blanks are blank
 pub is_blank-replicate : (n : ℕ) → is_blank (replicate n 32) ≡ true
 unfolding is_blank
-is_blank-replicate zero = refl
-is_blank-replicate (suc n) = is_blank-replicate n
-
-blank-cons : (b : ℕ) (t : Bool) → (eqb b 32 && t) ≡ true → (b ≡ 32) × (t ≡ true)
-blank-cons b t h = (grind (arith, nat_tests), grind (arith, nat_tests))
+is_blank-replicate n = copies_pass is_blank_byte 32 refl n
 
 -- bytes that are blank are as many blanks
 pub blanks : (bs : List ℕ) → is_blank bs ≡ true → bs ≡ replicate (length bs) 32
 unfolding is_blank
-blanks [] h = refl
-blanks (b ∷ bs) h =
-    let parts = blank-cons b (is_blank bs) h in
-    let more = blanks bs parts.1 in
-    let head = parts.0 in
-    cc
+blanks bs h = replicated bs (λ k within. AllPass-from_list_all is_blank_byte bs h k 0 within)
 
 -- blanks after bytes change nothing about whether they are blank
 pub is_blank-filled : (present : List ℕ) (n : ℕ) → is_blank present ≡ is_blank (present ++ replicate n 32)

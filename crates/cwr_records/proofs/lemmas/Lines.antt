@@ -1,11 +1,11 @@
 -- Facts on the pieces and the lines of a body.
-use Rattle.std.proofs.Common.{◌≡◌, ◌≢◌, ℕ, ◌+◌, ◌<◌, ◌≤◌, Bool, true, false, cond, eqb, List, [], ◌∷◌, ◌++◌, length, get_or, take, drop, refl, ap, sym, ◌∙◌, arith, map, suc, append_assoc}
+use Rattle.std.proofs.Common.{◌≡◌, ◌≢◌, ℕ, ◌+◌, ◌<◌, ◌≤◌, Bool, true, false, cond, eqb, List, [], ◌∷◌, ◌++◌, length, get_or, take, drop, refl, ap, sym, ◌∙◌, arith, suc, append_assoc}
 use Rattle.std.proofs.lemmas.Bool.{or_parts, or_from, eqb-true}
 use Rattle.std.proofs.lemmas.List.{append-nil, take_all, take_more, drop_all, drop_more, get_or-drop, get_or-take, take-append-drop, length-drop, length-take}
 use Rattle.std.proofs.lemmas.List.Folds.{list_any-append}
 use Rattle.std.proofs.Math.Seq.{take-add}
 use Rattle.memchr.specs.Find.{is_byte, NoneBefore, Nowhere, Passes}
-use Rattle.cwr_records.specs.Lines.{pieces, onto_first, line_of_piece, has_line_end, IsFirstLine, IsWholePiece}
+use Rattle.cwr_records.specs.Lines.{pieces, onto_first, has_line_end, IsWholePiece}
 
 -- a front of bytes and the pieces of the rest, where no LF stands within the front
 abbrev pub onto_front : List ℕ → List (List ℕ) → List (List ℕ)
@@ -93,14 +93,3 @@ pub pieces-last : (bs : List ℕ) (count : ℕ) → count ≡ length bs → bs �
 pieces-last bs count is some free =
     let all : length bs ≤ count = omega arith in
     ap pieces (sym (append-nil bs)) ∙ open-pieces bs [] some free ∙ rw (take_all count bs all, drop_all count bs all) refl
-
--- a first piece that is cut off gives the first line
-pub first_line : (body piece rest line : List ℕ) (n : ℕ) → 0 < n → n ≤ length body → piece ≡ take n body → rest ≡ drop n body → pieces body ≡ take n body ∷ pieces (drop n body) → line ≡ line_of_piece piece → IsFirstLine body line rest
-first_line body piece rest line n some within p r e l = record {
-  piece = piece;
-  joined = rw (p, r) (sym (take-append-drop n body));
-  pieces_are = rw (p, r) e;
-  line_is = l;
-  lines_are = rw (l, p, r) (ap (map line_of_piece) e);
-  shorter = omega (arith, ap length r, length-drop n body);
-}

@@ -1,5 +1,6 @@
 -- Facts on the rows that are written by a layout.
-use Rattle.std.proofs.Common.{◌≡◌, ℕ, ◌+◌, ◌-◌, ◌<◌, ◌≤◌, Bool, true, false, eqb, leb, ltb, not, ◌&&◌, List, [], ◌∷◌, ◌++◌, length, take, drop, replicate, get_or, map, refl, ap, sym, ◌∙◌, arith, suc, zero, IsTrue, Result, Ok, Err, OnOk}
+use Rattle.std.proofs.Common.{◌≡◌, ℕ, ◌+◌, ◌-◌, ◌<◌, ◌≤◌, Bool, true, false, eqb, leb, ltb, not, ◌&&◌, List, [], ◌∷◌, ◌++◌, length, take, drop, replicate, get_or, map, refl, ap, sym, ◌∙◌, arith, IsTrue, Result, Ok, Err, OnOk}
+use Rattle.std.proofs.lemmas.Bool.{and_parts}
 use Rattle.std.proofs.lemmas.Bool.Decides.{nat_tests}
 use Rattle.std.proofs.lemmas.List.{append_assoc, drop_more, take-append-le, take_at, drop_at, length-append, length-map, length-replicate, get_or-map, get_or_at}
 use Rattle.std.proofs.lemmas.List.Folds.{list_all-append}
@@ -10,6 +11,7 @@ use Rattle.cwr_records.specs.Layouts.{row_behind, is_ordered, nowhere, width_of,
 use Rattle.cwr_records.specs.Records.{record_of, IsReadBack}
 use Rattle.cwr_records.specs.declared.record.Record.{Record}
 use Rattle.cwr_records.specs.Lines.{field, pieces, lines, line_of_piece, without_last}
+use Rattle.work_ids.proofs.lemmas.Trailing.{copies_pass}
 use Rattle.cwr_records.proofs.lemmas.Fields.{fill-whole}
 
 -- one more field on what is written so far, with the blanks in front of it
@@ -73,19 +75,14 @@ abbrev no_lf : List ℕ → Bool
 no_lf bs = list_all (λ b. not (eqb b 10)) bs
 
 no_lf-blanks : (n : ℕ) → no_lf (replicate n 32) ≡ true
-no_lf-blanks zero = refl
-no_lf-blanks (suc n) = no_lf-blanks n
-
-both-true : (a b : Bool) → (a && b) ≡ true → (a ≡ true) × (b ≡ true)
-both-true true b h = (refl, h)
-both-true false b h = cc
+no_lf-blanks n = copies_pass (λ b. not (eqb b 10)) 32 refl n
 
 -- a row of contents that hold no LF holds none
 pub no_lf-row : (ps : List Position) (cs : List (List ℕ)) (behind : ℕ) → is_one_line cs ≡ true → no_lf (row_behind behind ps cs) ≡ true
 no_lf-row [] cs behind h = refl
 no_lf-row (p ∷ ps) [] behind h = refl
 no_lf-row (p ∷ ps) (c ∷ cs) behind h =
-    let parts = both-true (no_lf c) (is_one_line cs) h in
+    let parts = and_parts (no_lf c) (is_one_line cs) h in
     let blanks = replicate (p.from - 1 - behind) 32 in
     let rest = row_behind p.to ps cs in
     let first = list_all-append (λ b. not (eqb b 10)) blanks (c ++ rest) in
@@ -96,7 +93,7 @@ no_lf-row (p ∷ ps) (c ∷ cs) behind h =
 pub pieces-ended : (line rest : List ℕ) → no_lf line ≡ true → pieces (ended line ++ rest) ≡ ended line ∷ pieces rest
 pieces-ended [] rest h = refl
 pieces-ended (b ∷ bs) rest h =
-    let parts = both-true (not (eqb b 10)) (no_lf bs) h in
+    let parts = and_parts (not (eqb b 10)) (no_lf bs) h in
     let other : eqb b 10 ≡ false = grind (arith, nat_tests) in
     rw (other, pieces-ended bs rest parts.1) refl
 
@@ -120,7 +117,7 @@ lines-ended line rest h = ap (map line_of_piece) (pieces-ended line rest h) ∙ 
 -- what is written of a record by its layout is read as that record
 pub reads_back : (places : List Place) (cs : List (List ℕ)) (r : Record) → IsTrue (is_layout places) → map length cs ≡ map width_of (positions_of places) → ((line : List ℕ) → fields_at (positions_of places) line ≡ cs → record_of line ≡ r) → IsTrue (is_one_line cs) → IsReadBack (row places cs) r
 reads_back places cs r layout widths read one =
-    let ordered = (both-true (not (eqb (length places) 0)) (is_ordered 0 (positions_of places)) layout).1 in
+    let ordered = (and_parts (not (eqb (length places) 0)) (is_ordered 0 (positions_of places)) layout).1 in
     record {
       one_line = λ rest. lines-ended (row places cs) rest (no_lf-row (positions_of places) cs 0 one);
       same = read (row places cs) (fields-row (positions_of places) cs [] 0 refl ordered widths);

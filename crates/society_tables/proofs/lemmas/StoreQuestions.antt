@@ -22,12 +22,12 @@ use Rattle.society_core.specs.contracts.store.Known as known
 use Rattle.society_core.specs.contracts.store.KnownEnd as known_end
 use Rattle.society_core.specs.contracts.store.KnownTransmission as known_transmission
 use Rattle.society_core.specs.contracts.store.Payment as payment
-use Rattle.society_core.specs.contracts.store.Place as place
+use Rattle.society_core.specs.contracts.store.NumberPlace as place
 use Rattle.society_core.specs.declared.store.Known.{Known}
 use Rattle.society_core.specs.declared.store.KnownEnd.{KnownEnd}
 use Rattle.society_core.specs.declared.store.KnownTransmission.{KnownTransmission}
 use Rattle.society_core.specs.declared.store.Payment.{Payment}
-use Rattle.society_core.specs.declared.store.Place.{Place}
+use Rattle.society_core.specs.declared.store.NumberPlace.{NumberPlace}
 use Rattle.society_core.specs.declared.store.StoreFault.{StoreFault}
 use Rattle.society_rows.specs.declared.fault.RowFault.{RowFault}
 use Rattle.society_rows.specs.declared.fault.RowFault.TheVariants.{Memory, Overflow, Refused, Schema, Unread}
@@ -130,7 +130,7 @@ one_known x y = Coded-set known.the_row.coded x y
 pub one_known_transmission : (x y : KnownTransmission) → IsAlone (x ≡ y)
 one_known_transmission x y = Coded-set known_transmission.the_row.coded x y
 
-pub one_place : (x y : Place) → IsAlone (x ≡ y)
+pub one_place : (x y : NumberPlace) → IsAlone (x ≡ y)
 one_place x y = Coded-set place.the_row.coded x y
 
 pub one_known_end : (x y : KnownEnd) → IsAlone (x ≡ y)

@@ -7,7 +7,7 @@ use Rattle.work_ids.specs.Isrc.{is_isrc, has_isrc_form, isrc_of, isrc_of_text, h
 use Rattle.work_ids.specs.Characters.{is_capital, is_digit, is_capital_or_digit, capital}
 use Rattle.work_ids.specs.declared.fault.IdFault.TheVariants.{Length}
 use Rattle.work_ids.proofs.lemmas.Marks.{is_written}
-use Rattle.work_ids.proofs.lemmas.Joined.{first-true, second-true}
+use Rattle.std.proofs.lemmas.Bool.{and_parts}
 
 letter_stays : (x : ℕ) → is_capital x ≡ true → capital x ≡ x
 letter_stays x h = grind (arith, nat_tests)
@@ -21,8 +21,8 @@ either_stays x h = grind (arith, nat_tests)
 all_stay : (test : ℕ → Bool) → ((x : ℕ) → test x ≡ true → capital x ≡ x) → (xs : List ℕ) → list_all test xs ≡ true → map capital xs ≡ xs
 all_stay test stays [] h = refl
 all_stay test stays (x ∷ xs) h =
-    let here = stays x (first-true (test x) (list_all test xs) h) in
-    let rest = all_stay test stays xs (second-true (test x) (list_all test xs) h) in
+    let here = stays x (and_parts (test x) (list_all test xs) h).0 in
+    let rest = all_stay test stays xs (and_parts (test x) (list_all test xs) h).1 in
     cc
 
 parts : (xs : List ℕ) → length xs ≡ 12 → xs ≡ take 2 xs ++ (take 3 (drop 2 xs) ++ drop 5 xs)
@@ -31,24 +31,24 @@ parts xs h = subst (λ (ys : List ℕ). ys ≡ take 2 ys ++ (take 3 (drop 2 ys) 
 isrc_stays : (xs : List ℕ) → length xs ≡ 12 → has_isrc_form xs ≡ true → map capital xs ≡ xs
 unfolding has_isrc_form
 isrc_stays xs n h =
-    let a : (list_all is_capital (take 2 xs) && list_all is_capital_or_digit (take 3 (drop 2 xs))) ≡ true = first-true (list_all is_capital (take 2 xs) && list_all is_capital_or_digit (take 3 (drop 2 xs))) (list_all is_digit (drop 5 xs)) h in
-    let p = all_stay is_capital letter_stays (take 2 xs) (first-true (list_all is_capital (take 2 xs)) (list_all is_capital_or_digit (take 3 (drop 2 xs))) a) in
-    let q = all_stay is_capital_or_digit either_stays (take 3 (drop 2 xs)) (second-true (list_all is_capital (take 2 xs)) (list_all is_capital_or_digit (take 3 (drop 2 xs))) a) in
-    let r = all_stay is_digit digit_stays (drop 5 xs) (second-true (list_all is_capital (take 2 xs) && list_all is_capital_or_digit (take 3 (drop 2 xs))) (list_all is_digit (drop 5 xs)) h) in
+    let all = and_parts (list_all is_capital (take 2 xs) && list_all is_capital_or_digit (take 3 (drop 2 xs))) (list_all is_digit (drop 5 xs)) h in
+    let front = and_parts (list_all is_capital (take 2 xs)) (list_all is_capital_or_digit (take 3 (drop 2 xs))) all.0 in
+    let p = all_stay is_capital letter_stays (take 2 xs) front.0 in
+    let q = all_stay is_capital_or_digit either_stays (take 3 (drop 2 xs)) front.1 in
+    let r = all_stay is_digit digit_stays (drop 5 xs) all.1 in
     let whole = parts xs n in
     let cut = map-append capital (take 2 xs) (take 3 (drop 2 xs) ++ drop 5 xs) in
     let more = map-append capital (take 3 (drop 2 xs)) (drop 5 xs) in
     cc
 
 pub isrc-length : (xs : List ℕ) → is_isrc xs ≡ true → length xs ≡ 12
-isrc-length xs h = eqb-true (length xs) 12 (first-true (eqb (length xs) 12) (has_isrc_form xs) h)
+isrc-length xs h = eqb-true (length xs) 12 (and_parts (eqb (length xs) 12) (has_isrc_form xs) h).0
 
 isrc_of_is : (xs : List ℕ) → is_isrc xs ≡ true → isrc_of xs ≡ Ok xs
 unfolding isrc_of
 isrc_of_is xs h =
-    let long : eqb (length xs) 12 ≡ true = first-true (eqb (length xs) 12) (has_isrc_form xs) h in
-    let formed : has_isrc_form xs ≡ true = second-true (eqb (length xs) 12) (has_isrc_form xs) h in
-    rw (long, formed) refl
+    let parts = and_parts (eqb (length xs) 12) (has_isrc_form xs) h in
+    rw (parts.0, parts.1) refl
 
 isrc_text_length : (xs : List ℕ) → length xs ≡ 12 → eqb (length (printed_isrc xs)) 15 ≡ true
 unfolding printed_isrc
@@ -66,7 +66,7 @@ pub isrc_reads_back : (xs text : List ℕ) → is_isrc xs ≡ true → text ≡ 
 unfolding isrc_of_text
 isrc_reads_back xs text h e =
     let n = isrc-length xs h in
-    let stays = isrc_stays xs n (second-true (eqb (length xs) 12) (has_isrc_form xs) h) in
+    let stays = isrc_stays xs n (and_parts (eqb (length xs) 12) (has_isrc_form xs) h).1 in
     rw (e, isrc_text_length xs n, isrc_text_marks xs n, isrc_text_rest xs n, stays) (isrc_of_is xs h)
 
 pub no_isrc_length : (text : List ℕ) → (length text ≡ 15 → ⊥) → (length text ≡ 12 → ⊥) → Err Length ≡ isrc_of_text text

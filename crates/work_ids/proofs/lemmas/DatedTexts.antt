@@ -7,6 +7,7 @@ use Rattle.work_ids.specs.Digits.{last_digits}
 use Rattle.work_ids.specs.SpelledNumber.{IsDatedText, dated_in_text, dated_text, is_dated_text}
 use Rattle.work_ids.specs.declared.spelled_number.SpelledNumber.{SpelledNumber}
 use Rattle.work_ids.specs.declared.spelled_number.SpelledNumber.TheVariants.{Dated}
+use Rattle.work_ids.proofs.lemmas.Joined.{four_true}
 use Rattle.work_ids.proofs.lemmas.LastDigits.{are_last_digits, last_digits_of, value_below, value_of_last_digits}
 use Rattle.work_ids.proofs.lemmas.Marks.{is_written}
 
@@ -19,13 +20,6 @@ pub record HasDatedForm (text : List ℕ) : Type 0 where
   pub two_long : length (take 2 text) ≡ 2
   pub four_long : length (take 4 (drop 3 text)) ≡ 4
 
-formed : (long year hyphen sequence : Bool) → (((long && year) && hyphen) && sequence) ≡ true → (long ≡ true) × (year ≡ true) × (hyphen ≡ true) × (sequence ≡ true)
-formed true true true true h = (refl, refl, refl, refl)
-formed true true true false h = absurd (cc)
-formed true true false sequence h = absurd (cc)
-formed true false hyphen sequence h = absurd (cc)
-formed false year hyphen sequence h = absurd (cc)
-
 two_of : (text : List ℕ) → length text ≡ 7 → length (take 2 text) ≡ 2
 two_of text h = subst (λ (ts : List ℕ). length (take 2 ts) ≡ 2) (sym (is_written 7 text h)) refl
 
@@ -35,7 +29,7 @@ four_of text h = subst (λ (ts : List ℕ). length (take 4 (drop 3 ts)) ≡ 4) (
 pub dated_form : (text : List ℕ) → is_dated_text text ≡ true → HasDatedForm text
 unfolding is_dated_text
 dated_form text h =
-    let each = formed (length text == 7) (list_all is_digit (take 2 text)) (slice_index text 2 == 45) (list_all is_digit (take 4 (drop 3 text))) h in
+    let each = four_true (length text == 7) (list_all is_digit (take 2 text)) (slice_index text 2 == 45) (list_all is_digit (take 4 (drop 3 text))) h in
     let long = eqb-true (length text) 7 each.0 in
     record {
       long = long;

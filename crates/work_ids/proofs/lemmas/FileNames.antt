@@ -11,9 +11,10 @@ use Rattle.work_ids.specs.Digits.{last_digits}
 use Rattle.work_ids.specs.FileNames.{IsNameOf, file_name, is_file_name, is_name_end, is_sender_code, is_version_digit, name_end, number_in_name}
 use Rattle.work_ids.specs.Segments.{transmission_number_in, is_in_segment}
 use Rattle.work_ids.specs.declared.segment.Segment.TheVariants.{Year}
-use Rattle.work_ids.proofs.lemmas.Joined.{first-true}
+use Rattle.std.proofs.lemmas.Bool.{and_parts, or_cases}
+use Rattle.work_ids.proofs.lemmas.Joined.{four_true}
 use Rattle.work_ids.proofs.lemmas.LastDigits.{are_last_digits, last_digits_of, value_of_last_digits}
-use Rattle.work_ids.proofs.lemmas.Marks.{is_written}
+use Rattle.work_ids.proofs.lemmas.Marks.{is_written, written}
 
 -- what stands in the name of a file
 pub record HasNameForm (society : ℕ) (name : List ℕ) : Type 0 where
@@ -24,18 +25,12 @@ pub record HasNameForm (society : ℕ) (name : List ℕ) : Type 0 where
   pub sender : list_all is_capital_or_digit (take (length name - 16) (drop 8 name)) ≡ true
   pub end : is_name_end society (drop (length name - 8) name) ≡ true
 
-either : (a b : Bool) → (a || b) ≡ true → (a ≡ true) ⊎ (b ≡ true)
-either true b h = inl refl
-either false b h = inr h
-
 formed : (long front year sequence sender end : Bool) → (((((long && front) && year) && sequence) && sender) && end) ≡ true → (long ≡ true) × (front ≡ true) × (year ≡ true) × (sequence ≡ true) × (sender ≡ true) × (end ≡ true)
-formed true true true true true true h = (refl, refl, refl, refl, refl, refl)
-formed true true true true true false h = absurd (cc)
-formed true true true true false end h = absurd (cc)
-formed true true true false sender end h = absurd (cc)
-formed true true false sequence sender end h = absurd (cc)
-formed true false year sequence sender end h = absurd (cc)
-formed false front year sequence sender end h = absurd (cc)
+formed long front year sequence sender end h =
+    let all = and_parts ((((long && front) && year) && sequence) && sender) end h in
+    let most = and_parts (((long && front) && year) && sequence) sender all.0 in
+    let four = four_true long front year sequence most.0 in
+    (four.0, four.1, four.2, four.3, most.1, all.1)
 
 pub name_form : (society : ℕ) (name : List ℕ) → is_file_name society name ≡ true → HasNameForm society name
 unfolding is_file_name
@@ -43,7 +38,7 @@ name_form society name h =
     let each =
     formed (length name == 18 || length name == 19) (bytes_eq (take 2 name) (codes "CW")) (list_all is_digit (take 2 (drop 2 name))) (list_all is_digit (take 4 (drop 4 name))) (list_all is_capital_or_digit (take (length name - 16) (drop 8 name))) (is_name_end society (drop (length name - 8) name)) h in
     record {
-      long = ⊎_elim (λ (e : (length name == 18) ≡ true). inl (eqb-true (length name) 18 e)) (λ (e : (length name == 19) ≡ true). inr (eqb-true (length name) 19 e)) (either (length name == 18) (length name == 19) each.0);
+      long = ⊎_elim (λ (e : (length name == 18) ≡ true). inl (eqb-true (length name) 18 e)) (λ (e : (length name == 19) ≡ true). inr (eqb-true (length name) 19 e)) (or_cases (length name == 18) (length name == 19) each.0);
       front = (bytes_eq-Decides (take 2 name) (codes "CW")).0 each.1;
       year = each.2;
       sequence = each.3;
@@ -53,35 +48,25 @@ name_form society name h =
 
 -- such a name has eighteen characters at least
 pub at_least : (society : ℕ) (name : List ℕ) → HasNameForm society name → 18 ≤ length name
-at_least society name form = ⊎_elim short_one long_one form.long
-  where
-    short_one : length name ≡ 18 → 18 ≤ length name
-    short_one h = omega (arith, h)
+at_least society name form =
+    ⊎_elim (λ (h : length name ≡ 18). omega (arith, h)) (λ (h : length name ≡ 19). omega (arith, h)) form.long
 
-    long_one : length name ≡ 19 → 18 ≤ length name
-    long_one h = omega (arith, h)
-
--- a list of 18 or 19, and what holds of both
-at_either : (P : List ℕ → Type 0) (name : List ℕ) → ((length name ≡ 18) ⊎ (length name ≡ 19)) → ((ns : List ℕ) → length ns ≡ 18 → P ns) → ((ns : List ℕ) → length ns ≡ 19 → P ns) → P name
-at_either P name long short_one long_one = ⊎_elim (λ (h : length name ≡ 18). short_one name h) (λ (h : length name ≡ 19). long_one name h) long
+-- what holds of eighteen characters and of nineteen, each written out, holds of a name
+at_either : (P : List ℕ → Type 0) (name : List ℕ) → ((length name ≡ 18) ⊎ (length name ≡ 19)) → P (written 18 name) → P (written 19 name) → P name
+at_either P name long short_one long_one =
+    ⊎_elim (λ (h : length name ≡ 18). subst P (sym (is_written 18 name h)) short_one) (λ (h : length name ≡ 19). subst P (sym (is_written 19 name h)) long_one) long
 
 pub year_long : (society : ℕ) (name : List ℕ) → HasNameForm society name → length (take 2 (drop 2 name)) ≡ 2
 year_long society name form =
-    at_either (λ (ns : List ℕ). length (take 2 (drop 2 ns)) ≡ 2) name form.long
-    (λ (ns : List ℕ) (h : length ns ≡ 18). subst (λ (ts : List ℕ). length (take 2 (drop 2 ts)) ≡ 2) (sym (is_written 18 ns h)) refl)
-    (λ (ns : List ℕ) (h : length ns ≡ 19). subst (λ (ts : List ℕ). length (take 2 (drop 2 ts)) ≡ 2) (sym (is_written 19 ns h)) refl)
+    at_either (λ (ns : List ℕ). length (take 2 (drop 2 ns)) ≡ 2) name form.long refl refl
 
 pub sequence_long : (society : ℕ) (name : List ℕ) → HasNameForm society name → length (take 4 (drop 4 name)) ≡ 4
 sequence_long society name form =
-    at_either (λ (ns : List ℕ). length (take 4 (drop 4 ns)) ≡ 4) name form.long
-    (λ (ns : List ℕ) (h : length ns ≡ 18). subst (λ (ts : List ℕ). length (take 4 (drop 4 ts)) ≡ 4) (sym (is_written 18 ns h)) refl)
-    (λ (ns : List ℕ) (h : length ns ≡ 19). subst (λ (ts : List ℕ). length (take 4 (drop 4 ts)) ≡ 4) (sym (is_written 19 ns h)) refl)
+    at_either (λ (ns : List ℕ). length (take 4 (drop 4 ns)) ≡ 4) name form.long refl refl
 
 end_long : (society : ℕ) (name : List ℕ) → HasNameForm society name → length (drop (length name - 8) name) ≡ 8
 end_long society name form =
-    at_either (λ (ns : List ℕ). length (drop (length ns - 8) ns) ≡ 8) name form.long
-    (λ (ns : List ℕ) (h : length ns ≡ 18). subst (λ (ts : List ℕ). length (drop (length ts - 8) ts) ≡ 8) (sym (is_written 18 ns h)) refl)
-    (λ (ns : List ℕ) (h : length ns ≡ 19). subst (λ (ts : List ℕ). length (drop (length ts - 8) ts) ≡ 8) (sym (is_written 19 ns h)) refl)
+    at_either (λ (ns : List ℕ). length (drop (length ns - 8) ns) ≡ 8) name form.long refl refl
 
 -- the parts of a name, one after another
 abbrev parts_of : List ℕ → List ℕ
@@ -89,18 +74,14 @@ parts_of ns = take 2 ns ++ take 2 (drop 2 ns) ++ take 4 (drop 4 ns) ++ take (len
 
 parts : (society : ℕ) (name : List ℕ) → HasNameForm society name → name ≡ parts_of name
 parts society name form =
-    at_either (λ (ns : List ℕ). ns ≡ parts_of ns) name form.long
-    (λ (ns : List ℕ) (h : length ns ≡ 18). subst (λ (ts : List ℕ). ts ≡ parts_of ts) (sym (is_written 18 ns h)) refl)
-    (λ (ns : List ℕ) (h : length ns ≡ 19). subst (λ (ts : List ℕ). ts ≡ parts_of ts) (sym (is_written 19 ns h)) refl)
+    at_either (λ (ns : List ℕ). ns ≡ parts_of ns) name form.long refl refl
 
 code_length : (n : ℕ) → (n ≡ 18) ⊎ (n ≡ 19) → (n - 16 == 2 || n - 16 == 3) ≡ true
 code_length n long = ⊎_elim (λ (h : n ≡ 18). rw h refl) (λ (h : n ≡ 19). rw h refl) long
 
 sender_length : (society : ℕ) (name : List ℕ) → HasNameForm society name → length (take (length name - 16) (drop 8 name)) ≡ length name - 16
 sender_length society name form =
-    at_either (λ (ns : List ℕ). length (take (length ns - 16) (drop 8 ns)) ≡ length ns - 16) name form.long
-    (λ (ns : List ℕ) (h : length ns ≡ 18). subst (λ (ts : List ℕ). length (take (length ts - 16) (drop 8 ts)) ≡ length ts - 16) (sym (is_written 18 ns h)) refl)
-    (λ (ns : List ℕ) (h : length ns ≡ 19). subst (λ (ts : List ℕ). length (take (length ts - 16) (drop 8 ts)) ≡ length ts - 16) (sym (is_written 19 ns h)) refl)
+    at_either (λ (ns : List ℕ). length (take (length ns - 16) (drop 8 ns)) ≡ length ns - 16) name form.long refl refl
 
 sender_is_code : (society : ℕ) (name : List ℕ) → HasNameForm society name → is_sender_code (take (length name - 16) (drop 8 name)) ≡ true
 sender_is_code society name form =
@@ -115,17 +96,10 @@ record HasEndForm (society : ℕ) (end : List ℕ) : Type 0 where
   version : take 3 (drop 4 end) ≡ codes ".V2"
   digit : is_version_digit (slice_index end 7) ≡ true
 
-end_formed : (mark receiver version digit : Bool) → (((mark && receiver) && version) && digit) ≡ true → (mark ≡ true) × (receiver ≡ true) × (version ≡ true) × (digit ≡ true)
-end_formed true true true true h = (refl, refl, refl, refl)
-end_formed true true true false h = absurd (cc)
-end_formed true true false digit h = absurd (cc)
-end_formed true false version digit h = absurd (cc)
-end_formed false receiver version digit h = absurd (cc)
-
 end_form : (society : ℕ) (end : List ℕ) → is_name_end society end ≡ true → HasEndForm society end
 unfolding is_name_end
 end_form society end h =
-    let each = end_formed (slice_index end 0 == 95) (bytes_eq (take 3 (drop 1 end)) (last_digits 3 society)) (bytes_eq (take 3 (drop 4 end)) (codes ".V2")) (is_version_digit (slice_index end 7)) h in
+    let each = four_true (slice_index end 0 == 95) (bytes_eq (take 3 (drop 1 end)) (last_digits 3 society)) (bytes_eq (take 3 (drop 4 end)) (codes ".V2")) (is_version_digit (slice_index end 7)) h in
     record {
       mark = eqb-true (slice_index end 0) 95 each.0;
       receiver = (bytes_eq-Decides (take 3 (drop 1 end)) (last_digits 3 society)).0 each.1;
@@ -213,7 +187,7 @@ made year sequence version society (p ∷ q ∷ r ∷ []) sender_is version_is =
     made_long _ _ _ _ _ _ _ _ _ p q r version society (are_last_digits 2 year) (are_last_digits 4 sequence) sender_is (same_digits society) version_is
 made year sequence version society (p ∷ q ∷ r ∷ t ∷ more) sender_is version_is =
     let sender : List ℕ = p ∷ q ∷ r ∷ t ∷ more in
-    let size = either (length sender == 2) (length sender == 3) (first-true (length sender == 2 || length sender == 3) (list_all is_capital_or_digit sender) sender_is) in
+    let size = or_cases (length sender == 2) (length sender == 3) (and_parts (length sender == 2 || length sender == 3) (list_all is_capital_or_digit sender) sender_is).0 in
     ⊎_elim (λ (two : (length sender == 2) ≡ true). absurd (omega (arith, eqb-true (length sender) 2 two))) (λ (three : (length sender == 3) ≡ true). absurd (omega (arith, eqb-true (length sender) 3 three))) size
 
 year_in : (year sequence : ℕ) (sender end : List ℕ) → take 2 (drop 2 (file_name year sequence sender end)) ≡ last_digits 2 year

@@ -3,7 +3,7 @@ use Rattle.std.proofs.Common.{◌≡◌, ℕ, true, ◌&&◌, eqb, List, length,
 use Rattle.std.specs.List.{range_with_len}
 use Rattle.std.proofs.lemmas.List.FromFn.{fill_by_all}
 use Rattle.work_ids.specs.Iswc.{is_iswc, has_iswc_form, has_right_check_digit, iswc_of, iswc_of_text, has_iswc_marks, without_iswc_marks, printed}
-use Rattle.work_ids.proofs.lemmas.Joined.{first-true, second-true}
+use Rattle.std.proofs.lemmas.Bool.{and_parts}
 
 -- a list, element by element
 abbrev pub written : ℕ → List ℕ → List ℕ
@@ -14,16 +14,14 @@ is_written n xs h = fill_by_all (λ k. get_or xs k 0) xs n 0 h (λ k _. refl)
 
 pub iswc-length : (xs : List ℕ) → is_iswc xs ≡ true → length xs ≡ 11
 iswc-length xs h =
-    eqb-true (length xs) 11 (first-true (eqb (length xs) 11) (has_iswc_form xs) (first-true (eqb (length xs) 11 && has_iswc_form xs) (has_right_check_digit xs) h))
+    eqb-true (length xs) 11 (and_parts (eqb (length xs) 11) (has_iswc_form xs) (and_parts (eqb (length xs) 11 && has_iswc_form xs) (has_right_check_digit xs) h).0).0
 
 iswc_of_is : (xs : List ℕ) → is_iswc xs ≡ true → iswc_of xs ≡ Ok xs
 unfolding iswc_of
 iswc_of_is xs h =
-    let front : (eqb (length xs) 11 && has_iswc_form xs) ≡ true = first-true (eqb (length xs) 11 && has_iswc_form xs) (has_right_check_digit xs) h in
-    let long : eqb (length xs) 11 ≡ true = first-true (eqb (length xs) 11) (has_iswc_form xs) front in
-    let formed : has_iswc_form xs ≡ true = second-true (eqb (length xs) 11) (has_iswc_form xs) front in
-    let right : has_right_check_digit xs ≡ true = second-true (eqb (length xs) 11 && has_iswc_form xs) (has_right_check_digit xs) h in
-    rw (long, formed, right) refl
+    let all = and_parts (eqb (length xs) 11 && has_iswc_form xs) (has_right_check_digit xs) h in
+    let front = and_parts (eqb (length xs) 11) (has_iswc_form xs) all.0 in
+    rw (front.0, front.1, all.1) refl
 
 iswc_text_length : (xs : List ℕ) → length xs ≡ 11 → eqb (length (printed xs)) 15 ≡ true
 unfolding printed

@@ -7,11 +7,7 @@ use Rattle.work_ids.specs.Blanks.{fill, is_blank_byte, trimmed, without_leading_
 use Rattle.work_ids.specs.Characters.{is_printable}
 use Rattle.work_ids.specs.PartyNumber.{begins_printed, is_party_number}
 use Rattle.work_ids.proofs.lemmas.Trailing.{filled_pass}
-use Rattle.work_ids.proofs.lemmas.Joined.{first-true, second-true}
-
-or_second : (a b : Bool) → b ≡ true → (a || b) ≡ true
-or_second true b h = refl
-or_second false b h = h
+use Rattle.std.proofs.lemmas.Bool.{and_parts, or_right}
 
 -- a number with blanks behind it
 pub number_filled : (number : List ℕ) → length number ≤ 9 → list_all is_printable number ≡ true → begins_printed number ≡ true → is_party_number (fill 9 number) ≡ true
@@ -21,7 +17,7 @@ number_filled (x ∷ xs) room printable front =
     let bytes : List ℕ = fill 9 (x ∷ xs) in
     let size : length bytes ≡ 9 = omega (arith, length-append (x ∷ xs) (replicate (9 - length (x ∷ xs)) 32), length-replicate {A = ℕ} (9 - length (x ∷ xs)) 32) in
     let all = filled_pass is_printable 9 (x ∷ xs) refl printable in
-    rw (eq-eqb (length bytes) 9 size, all) (or_second (list_all is_blank_byte bytes) (not (is_blank_byte x)) front)
+    rw (eq-eqb (length bytes) 9 size, all) (or_right (list_all is_blank_byte bytes) (not (is_blank_byte x)) front)
 
 front_step : (x : ℕ) (xs : List ℕ) (blank : Bool) → is_blank_byte x ≡ blank → begins_printed (without_leading_blanks xs) ≡ true → begins_printed (drop (cond blank (1 + prefix_len is_blank_byte xs) 0) (x ∷ xs)) ≡ true
 front_step x xs true e h = let n : 1 + prefix_len is_blank_byte xs ≡ suc (prefix_len is_blank_byte xs) = omega arith in rw n h
@@ -38,9 +34,9 @@ begins_printed_of_trimmed bytes = front_cut (without_trailing_blanks bytes)
 
 pub printable_of : (bytes : List ℕ) → is_trimmed_printable bytes ≡ true → list_all is_printable bytes ≡ true
 unfolding is_trimmed_printable
-printable_of bytes h = first-true _ _ (first-true _ _ h)
+printable_of bytes h = (and_parts _ _ (and_parts _ _ h).0).0
 
 pub front_of : (bytes : List ℕ) → is_trimmed_printable bytes ≡ true → begins_printed bytes ≡ true
 unfolding is_trimmed_printable
 front_of [] h = refl
-front_of (x ∷ xs) h = second-true (list_all is_printable (x ∷ xs)) (not (is_blank_byte x)) (first-true _ _ h)
+front_of (x ∷ xs) h = (and_parts (list_all is_printable (x ∷ xs)) (not (is_blank_byte x)) (and_parts _ _ h).0).1

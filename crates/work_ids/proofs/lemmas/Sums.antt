@@ -6,7 +6,7 @@ use Rattle.std.proofs.lemmas.List.FromFn.{sum_by-map-range_with_len_more}
 use Rattle.std.proofs.Math.Nat.{mul-le-mul_left}
 use Rattle.work_ids.specs.Characters.{is_digit}
 use Rattle.work_ids.specs.CheckDigit.{is_check_digit, weighted_sum}
-use Rattle.work_ids.proofs.lemmas.Joined.{first-true, second-true}
+use Rattle.std.proofs.lemmas.Bool.{and_parts}
 
 abbrev worth : List ℕ → ℕ → ℕ
 worth digits place = place * (get_or digits (place - 1) 0 - 48)
@@ -29,13 +29,10 @@ product_bound n value h k = omega (arith, mul-le-mul_left (n + 1) k)
 told : (digits : List ℕ) (check : ℕ) → is_check_digit digits check ≡ true → (list_all is_digit digits ≡ true) × (48 ≤ check) × (check ≤ 57) × ((weighted_sum digits + (check - 48)) % 10 ≡ 0)
 unfolding is_check_digit
 told digits check e =
-    let front = first-true (list_all is_digit digits && (nat_le 48 check && nat_le check 57)) ((weighted_sum digits + (check - 48)) % 10 == 0) e in
-    let range = second-true (list_all is_digit digits) (nat_le 48 check && nat_le check 57) front in (
-      first-true (list_all is_digit digits) (nat_le 48 check && nat_le check 57) front,
-      leb-true 48 check (first-true (nat_le 48 check) (nat_le check 57) range),
-      leb-true check 57 (second-true (nat_le 48 check) (nat_le check 57) range),
-      eqb-true ((weighted_sum digits + (check - 48)) % 10) 0 (second-true (list_all is_digit digits && (nat_le 48 check && nat_le check 57)) ((weighted_sum digits + (check - 48)) % 10 == 0) e),
-    )
+    let all = and_parts (list_all is_digit digits && (nat_le 48 check && nat_le check 57)) ((weighted_sum digits + (check - 48)) % 10 == 0) e in
+    let front = and_parts (list_all is_digit digits) (nat_le 48 check && nat_le check 57) all.0 in
+    let range = and_parts (nat_le 48 check) (nat_le check 57) front.1 in
+    (front.0, leb-true 48 check range.0, leb-true check 57 range.1, eqb-true ((weighted_sum digits + (check - 48)) % 10) 0 all.1)
 
 -- what the code computes is a check digit, and no other is
 pub completes : (digits : List ℕ) (check : ℕ) → list_all is_digit digits ≡ true → (Some (48 + (10 - weighted_sum digits % 10) % 10) ≡ Some check) ↔ (is_check_digit digits check ≡ true)

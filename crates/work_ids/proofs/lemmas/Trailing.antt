@@ -6,7 +6,7 @@ use Rattle.std.proofs.lemmas.Bool.{cases_lt}
 use Rattle.std.proofs.lemmas.List.Sums.{prefix_len_passes, prefix_len_stops, suffix_len-le-length}
 use Rattle.std.proofs.lemmas.List.Folds.{list_all-append}
 use Rattle.work_ids.specs.Blanks.{is_blank_byte, without_trailing_blanks, fill}
-use Rattle.work_ids.proofs.lemmas.Joined.{first-true}
+use Rattle.std.proofs.lemmas.Bool.{and_parts}
 
 -- how many bytes are left without the blanks at the end
 abbrev pub left : List ℕ → ℕ
@@ -64,7 +64,7 @@ copies_pass test byte here (suc n) = let rest = copies_pass test byte here n in 
 -- a test that all bytes pass is passed by those that are left
 pub left_pass : (test : ℕ → Bool) (xs : List ℕ) → list_all test xs ≡ true → list_all test (without_trailing_blanks xs) ≡ true
 left_pass test xs h =
-    first-true (list_all test (take (left xs) xs)) (list_all test (drop (left xs) xs)) (sym (list_all-append test (take (left xs) xs) (drop (left xs) xs)) ∙ ap (list_all test) (take-append-drop (left xs) xs) ∙ h)
+    (and_parts (list_all test (take (left xs) xs)) (list_all test (drop (left xs) xs)) (sym (list_all-append test (take (left xs) xs) (drop (left xs) xs)) ∙ ap (list_all test) (take-append-drop (left xs) xs) ∙ h)).0
 
 -- a test that all bytes and a blank pass is passed by the bytes with blanks behind them
 pub filled_pass : (test : ℕ → Bool) (width : ℕ) (xs : List ℕ) → test 32 ≡ true → list_all test xs ≡ true → list_all test (fill width xs) ≡ true

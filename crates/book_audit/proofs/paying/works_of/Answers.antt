@@ -21,7 +21,7 @@ returns-in_err-works-clause-examined g c =
     let new = state g.S.Store c.works.new.tx.conn.now in
     let r = c.from_residual-in_err-works.result in
     examines_then (CannotPayAny closed) HoldNoWorks (CannotPayAny closed) old mid new wanted r _ (ListsAll closed) (ListsAll closed) c.in_ok-wanted.ensures.examined
-    (examines_failed {X = WorksByRecording} HoldNoWorks mid new c.in_err-works.field-0.0 r (ListsWorks (wants wanted)) (ListsAll closed) c.in_err-works.ensures.looks c.in_err-works.ensures.errs c.from_residual-in_err-works.ensures.1)
+    (examines_failed {X = WorksByRecording} HoldNoWorks mid new c.in_err-works.field-0.0 r (ListsWorks (wants wanted)) (ListsAll closed) c.in_err-works.ensures.looks c.in_err-works.ensures.err c.from_residual-in_err-works.ensures.1)
     (λ works asked lists. lists)
     (λ asked no o b holds can. no o b holds)
 

@@ -8,4 +8,4 @@ returns-clause-examined g c =
 
 pub returns-in_err-answer-clause-examined : goal.returns-in_err-answer-clause-examined
 returns-in_err-answer-clause-examined g c =
-    examines_unread (state g.S.Store c.args.tx.now.conn.now) (state g.S.Store c.answer.new.tx.conn.now) _ c.from_residual.result _ _ c.in_err-answer.ensures.read c.in_err-answer.ensures.told c.in_err-answer.ensures.medium c.from_residual.ensures.1
+    examines_unread (state g.S.Store c.args.tx.now.conn.now) (state g.S.Store c.answer.new.tx.conn.now) _ c.from_residual.result _ _ c.in_err-answer.ensures.read c.in_err-answer.ensures.err c.in_err-answer.ensures.medium c.from_residual.ensures.1

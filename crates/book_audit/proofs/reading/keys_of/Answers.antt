@@ -8,4 +8,4 @@ returns-clause-examined g c =
 
 pub returns-in_err-all_keys-clause-examined : goal.returns-in_err-all_keys-clause-examined
 returns-in_err-all_keys-clause-examined g c =
-    examines_unread (state g.S.Store c.args.tx.now.conn.now) (state g.S.Store c.all_keys.new.tx.conn.now) _ c.from_residual.result _ _ c.in_err-all_keys.ensures.read c.in_err-all_keys.ensures.told c.in_err-all_keys.ensures.medium c.from_residual.ensures.1
+    examines_unread (state g.S.Store c.args.tx.now.conn.now) (state g.S.Store c.all_keys.new.tx.conn.now) _ c.from_residual.result _ _ c.in_err-all_keys.ensures.read c.in_err-all_keys.ensures.err c.in_err-all_keys.ensures.medium c.from_residual.ensures.1

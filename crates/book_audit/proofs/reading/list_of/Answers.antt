@@ -21,4 +21,4 @@ returns-in_err-all_rows-clause-examined g c =
     let old = state g.S.Store c.args.tx.now.conn.now in
     let new = state g.S.Store c.all_rows.new.tx.conn.now in
     examines_unread old new _ c.from_residual.result (λ db rows. ListsAll table db rows.items) _ (reads_where (HasTable table) HasLayout old new (Err _) (λ db rows. ListsAll table db rows.items) (has_table table old.now) c.in_err-all_rows.ensures.read)
-    (λ clean has. c.in_err-all_rows.ensures.told clean (has_table table old.now has)) (λ clean has. c.in_err-all_rows.ensures.medium clean (has_table table old.now has)) c.from_residual.ensures.1
+    (λ clean has. c.in_err-all_rows.ensures.err clean (has_table table old.now has)) (λ clean has. c.in_err-all_rows.ensures.medium clean (has_table table old.now has)) c.from_residual.ensures.1

@@ -8,4 +8,4 @@ returns-clause-examined g c =
 
 pub returns-in_err-owners-clause-examined : goal.returns-in_err-owners-clause-examined
 returns-in_err-owners-clause-examined g c =
-    examines_unread (state g.S.Store c.args.tx.now.conn.now) (state g.S.Store c.owners.new.tx.conn.now) _ c.from_residual.result _ _ c.in_err-owners.ensures.read c.in_err-owners.ensures.told c.in_err-owners.ensures.medium c.from_residual.ensures.1
+    examines_unread (state g.S.Store c.args.tx.now.conn.now) (state g.S.Store c.owners.new.tx.conn.now) _ c.from_residual.result _ _ c.in_err-owners.ensures.read c.in_err-owners.ensures.err c.in_err-owners.ensures.medium c.from_residual.ensures.1

@@ -12,5 +12,5 @@ returns-clause-derives g c =
     let old = state g.S.Store c.args.tx.now.conn.now in
     let new = state g.S.Store c.add_credits.new.tx.conn.now in
     derives_also Never Never old new c.wrote.result _ _
-    (derives_adds layout.credits_table (map credit_values c.args.lines.now) old new c.add_credits.result c.wrote.result credits_table_derived c.add_credits.ensures.written c.add_credits.ensures.blamed c.wrote.ensures.done c.wrote.ensures.fault)
+    (derives_adds layout.credits_table (map credit_values c.args.lines.now) old new c.add_credits.result c.wrote.result credits_table_derived c.add_credits.ensures.written c.add_credits.ensures.blamed c.wrote.ensures.done c.wrote.ensures.err)
     (λ done own adds. record { rows = adds.rows; others = adds.others }) (λ never. never)

@@ -1,4 +1,4 @@
-use Rattle.std.proofs.Common.{◌<◌, ◌∙◌, length, get_or, arith, rules}
+use Rattle.std.proofs.Common.{◌<◌, ◌∙◌, length, get_or, arith}
 use Rattle.cwr_records.specs.declared.read.TheConstants.{TYPES}
 use Rattle.cwr_records.proofs.lemmas.RecordTypes.{first_of-other, told, past_end}
 use Rattle.cwr_records.proofs.read.record_type.Goals as goal
@@ -9,9 +9,3 @@ loop-letters-preserved c =
     let within : i < length TYPES = omega arith in
     let code = c.record_type-code.result in
     first_of-other TYPES i code within (told c.is.result code (get_or TYPES i past_end).0 c.is.ensures ∙ c.if-is.false) ∙ c.loop-letters.invariant
-
-pub loop-letters-init : goal.loop-letters-init
-loop-letters-init c = search rules
-
-pub returns-then-is : goal.returns-then-is
-returns-then-is c = search rules

@@ -8,10 +8,10 @@ use Rattle.cwr_records.proofs.write.append_record.Goals as goal
 pub loop-index-preserved : goal.loop-index-preserved
 loop-index-preserved g c =
     let ps = c.positions-positions.result.now in
-    let cs = g.K.Layout.contents c.args.source.now in
+    let cs = g.K.RecordKind.kind.contents c.args.source.now in
     let l = c.loop-index in
     let within : l.index < length ps = omega arith in
-    let counted : l.index < length cs = omega (arith, g.met.K.Layout.counted c.args.source.now, ap length c.positions-positions.ensures, length-map g.K.Layout.places position_of) in
+    let counted : l.index < length cs = omega (arith, g.K.RecordKind.kind.counted c.args.source.now, ap length c.positions-positions.ensures, length-map g.K.RecordKind.kind.places position_of) in
     let next = ordered-next ps l.index l.behind within l.invariant.ordered in
     let blanks = c.in_ok-append_blanks.ensures.ok in
     let field = c.in_ok-append_field.ensures.ok ∙ ap (λ (f : List ℕ). c.append_blanks.new.out.items ++ f) c.content.ensures.value in
@@ -27,6 +27,6 @@ loop-index-preserved g c =
 pub returns-clause-widths : goal.returns-clause-widths
 returns-clause-widths g c =
     let ps = c.positions-positions.result.now in
-    let cs = g.K.Layout.contents c.args.source.now in
-    let counted : length cs ≡ length ps = omega (arith, g.met.K.Layout.counted c.args.source.now, ap length c.positions-positions.ensures, length-map g.K.Layout.places position_of) in
+    let cs = g.K.RecordKind.kind.contents c.args.source.now in
+    let counted : length cs ≡ length ps = omega (arith, g.K.RecordKind.kind.counted c.args.source.now, ap length c.positions-positions.ensures, length-map g.K.RecordKind.kind.places position_of) in
     on_ok _ (widths-all ps cs c.loop-index.index counted (omega arith) c.loop-index.invariant.widths ∙ ap (map width_of) c.positions-positions.ensures)

@@ -13,7 +13,7 @@ pub returns-in-Ok-Request-clause-stops : goal.returns-in-Ok-Request-clause-stops
 returns-in-Ok-Request-clause-stops g c =
     left_by g.S.Store.state g.R.Read.remaining g.W.Write.contents c.args.desk.now c.answer_head.new.desk c.args.reader.now c.next_answered.new.reader c.answer_head.new.reader c.args.writer.now c.next_answered.new.writer
     c.args.room.now.input c.next_answered.new.input c.answer_head.new.room.input (waiting c.args.room.now.outbox) (waiting c.next_answered.new.outbox) c.in-Ok-Request.head c.answer_head.result
-    c.next_answered.ensures.reads c.in-Ok-Request.ensures.kept c.in-Ok-Request.ensures.sends (rw c.in-Ok-Request.field-0-is at c.in-Ok-Request.ensures.written) c.answer_head.ensures.comes c.answer_head.ensures.fault
+    c.next_answered.ensures.reads c.in-Ok-Request.ensures.kept c.in-Ok-Request.ensures.sends (rw c.in-Ok-Request.field-0-is at c.in-Ok-Request.ensures.written) c.answer_head.ensures.comes c.answer_head.ensures.err
 
 pub answer_head-requires-clause-head : goal.answer_head-requires-clause-head
 answer_head-requires-clause-head g c = (rw c.in-Ok-Request.field-0-is at c.in-Ok-Request.ensures.next) 0

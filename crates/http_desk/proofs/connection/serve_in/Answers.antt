@@ -21,15 +21,15 @@ returns-in-Ok-Ended-clause-served g c =
     ended_served g.S.Store.state _ _ _ _ _ (g.W.Write.contents c.close_with.new.writer.inner) _ _ c.in-Ok-Ended.end
     (finishes g.S.Store.state _ _ n.bytes _ _ _ _ _ _ _ _ (waiting c.answer_upcoming.new.room.outbox) _ so c.in-Ok-Ended.end (ends_there g.S.Store.state c.loop-answered.desk c.answer_upcoming.new.desk n.bytes (g.R.Read.remaining c.answer_upcoming.new.reader.inner) c.in-Ok-Ended.end n.comes.1 n.comes.0)) c.close_with.result c.close_with.ensures.served
 
-pub returns-in-Ok-Ended-clause-fault : goal.returns-in-Ok-Ended-clause-fault
-returns-in-Ok-Ended-clause-fault g c =
+pub returns-in-Ok-Ended-clause-err : goal.returns-in-Ok-Ended-clause-err
+returns-in-Ok-Ended-clause-err g c =
     let n = rw c.in-Ok-Ended.field-0-is at c.in-Ok-Ended.ensures.comes in
     let before = SoFar-next g.S.Store.state _ _ _ _ n.bytes _ _ _ _ _ _ _ _ _ _ (g.W.Write.contents c.answer_upcoming.new.writer.inner) _ (waiting c.answer_upcoming.new.room.outbox) _ c.loop-answered.invariant.0 n.reads c.in-Ok-Ended.ensures.sends in
     let so = SoFar-same g.S.Store.state c.loop-answered.desk c.answer_upcoming.new.desk _ _ n.bytes _ _ _ _ _ _ (g.W.Write.contents c.answer_upcoming.new.writer.inner) (waiting c.answer_upcoming.new.room.outbox) _ n.comes.1 before in
     ended_cause g.S.Store.state g.R.Read.remaining g.W.Write.contents c.args.desk.now c.answer_upcoming.new.desk c.args.reader.now c.answer_upcoming.new.reader c.args.writer.now c.answer_upcoming.new.writer c.close_with.new.writer
-    c.args.room.now.input.turns _ _ c.close_with.result (c.in-Ok-Ended.ensures.kept_writer ∙ c.loop-answered.invariant.3) c.close_with.ensures.fault
+    c.args.room.now.input.turns _ _ c.close_with.result (c.in-Ok-Ended.ensures.kept_writer ∙ c.loop-answered.invariant.3) c.close_with.ensures.err
     (ended_fault g.S.Store.state _ _ _ _ _ (g.W.Write.contents c.close_with.new.writer.inner) _ _ c.in-Ok-Ended.end
-    (finishes g.S.Store.state _ _ n.bytes _ _ _ _ _ _ _ _ (waiting c.answer_upcoming.new.room.outbox) _ so c.in-Ok-Ended.end (ends_there g.S.Store.state c.loop-answered.desk c.answer_upcoming.new.desk n.bytes (g.R.Read.remaining c.answer_upcoming.new.reader.inner) c.in-Ok-Ended.end n.comes.1 n.comes.0)) _ _ c.close_with.result c.close_with.ensures.fault)
+    (finishes g.S.Store.state _ _ n.bytes _ _ _ _ _ _ _ _ (waiting c.answer_upcoming.new.room.outbox) _ so c.in-Ok-Ended.end (ends_there g.S.Store.state c.loop-answered.desk c.answer_upcoming.new.desk n.bytes (g.R.Read.remaining c.answer_upcoming.new.reader.inner) c.in-Ok-Ended.end n.comes.1 n.comes.0)) _ _ c.close_with.result c.close_with.ensures.err)
 
 pub returns-in-Ok-Ended-clause-turns : goal.returns-in-Ok-Ended-clause-turns
 returns-in-Ok-Ended-clause-turns g c =
@@ -39,8 +39,8 @@ returns-in-Ok-Ended-clause-turns g c =
 
 -- ---- no request came
 
-pub returns-in-Err-clause-fault : goal.returns-in-Err-clause-fault
-returns-in-Err-clause-fault g c =
+pub returns-in-Err-clause-err : goal.returns-in-Err-clause-err
+returns-in-Err-clause-err g c =
     let n = c.in-Err.ensures.stops in
     let before = SoFar-reads g.S.Store.state _ _ _ _ n.bytes _ _ _ _ _ _ _ _ _ _ _ _ c.loop-answered.invariant.0 n.reads in
     let so = SoFar-same g.S.Store.state c.loop-answered.desk c.answer_upcoming.new.desk _ _ n.bytes _ _ _ _ _ _ _ _ _ n.same before in
@@ -63,14 +63,14 @@ overflow_add-requests g c =
     let most = countable g.S.Store.state _ _ n.bytes (unread c.answer_upcoming.new.room.input) _ _ _ _ _ _ c.answer_upcoming.new.desk _ _ (g.W.Write.contents c.answer_upcoming.new.writer.inner) (waiting c.answer_upcoming.new.room.outbox) (waiting c.answer_upcoming.new.room.outbox) _ so t.part t.is_part t.whole _ t.is_last (told_reply c.in-Ok-Request.answered.told) t.step in
     omega (arith, most, c.requires.turns)
 
-pub returns-in_default-clause-fault : goal.returns-in_default-clause-fault
-returns-in_default-clause-fault g c =
+pub returns-in_default-clause-err : goal.returns-in_default-clause-err
+returns-in_default-clause-err g c =
     let n = rw c.in-Ok-Request.field-0-is at c.in-Ok-Request.ensures.comes in
     let so = SoFar-next g.S.Store.state _ _ _ _ n.bytes _ _ _ _ _ _ _ _ _ _ (g.W.Write.contents c.answer_upcoming.new.writer.inner) _ (waiting c.answer_upcoming.new.room.outbox) _ c.loop-answered.invariant.0 n.reads c.in-Ok-Request.ensures.sends in
     let t = n.comes in
     record {
       breaks = failed g.S.Store.state _ _ n.bytes (unread c.answer_upcoming.new.room.input) _ _ _ _ _ _ c.answer_upcoming.new.desk _ _ (g.W.Write.contents c.send.new.writer.inner) (waiting c.answer_upcoming.new.room.outbox) (waiting c.send.new.room.outbox) _ so t.part t.is_part t.whole _ t.is_last (told_reply c.in-Ok-Request.answered.told) t.step c.in_default.ensures.gathers;
-      cause = rises_from _ _ _ (c.in-Ok-Request.ensures.kept_writer ∙ c.loop-answered.invariant.3) c.in_default.ensures.failed;
+      cause = rises_from _ _ _ (c.in-Ok-Request.ensures.kept_writer ∙ c.loop-answered.invariant.3) c.in_default.ensures.err;
     }
 
 pub returns-in_default-clause-turns : goal.returns-in_default-clause-turns
@@ -88,16 +88,16 @@ returns-then-answered-clause-served g c =
     (closes_on g.S.Store.state _ _ n.bytes (unread c.answer_upcoming.new.room.input) _ _ _ _ _ _ c.answer_upcoming.new.desk _ _ (g.W.Write.contents c.send.new.writer.inner) (waiting c.answer_upcoming.new.room.outbox) (waiting c.send.new.room.outbox) _ so t.part t.is_part t.whole _ t.is_last (told_reply c.in-Ok-Request.answered.told) t.step
     c.if-answered.true c.in-Ok.ensures.gathers) c.close_with-then-answered.result c.close_with-then-answered.ensures.served
 
-pub returns-then-answered-clause-fault : goal.returns-then-answered-clause-fault
-returns-then-answered-clause-fault g c =
+pub returns-then-answered-clause-err : goal.returns-then-answered-clause-err
+returns-then-answered-clause-err g c =
     let n = rw c.in-Ok-Request.field-0-is at c.in-Ok-Request.ensures.comes in
     let so = SoFar-next g.S.Store.state _ _ _ _ n.bytes _ _ _ _ _ _ _ _ _ _ (g.W.Write.contents c.answer_upcoming.new.writer.inner) _ (waiting c.answer_upcoming.new.room.outbox) _ c.loop-answered.invariant.0 n.reads c.in-Ok-Request.ensures.sends in
     let t = n.comes in
     ended_cause g.S.Store.state g.R.Read.remaining g.W.Write.contents c.args.desk.now c.answer_upcoming.new.desk c.args.reader.now c.answer_upcoming.new.reader c.args.writer.now c.send.new.writer c.close_with-then-answered.new.writer
-    c.args.room.now.input.turns _ _ c.close_with-then-answered.result (c.in-Ok.ensures.kept ∙ c.in-Ok-Request.ensures.kept_writer ∙ c.loop-answered.invariant.3) c.close_with-then-answered.ensures.fault
+    c.args.room.now.input.turns _ _ c.close_with-then-answered.result (c.in-Ok.ensures.kept ∙ c.in-Ok-Request.ensures.kept_writer ∙ c.loop-answered.invariant.3) c.close_with-then-answered.ensures.err
     (ended_fault g.S.Store.state _ _ _ _ _ (g.W.Write.contents c.close_with-then-answered.new.writer.inner) _ _ Closed
     (closes_on g.S.Store.state _ _ n.bytes (unread c.answer_upcoming.new.room.input) _ _ _ _ _ _ c.answer_upcoming.new.desk _ _ (g.W.Write.contents c.send.new.writer.inner) (waiting c.answer_upcoming.new.room.outbox) (waiting c.send.new.room.outbox) _ so t.part t.is_part t.whole _ t.is_last (told_reply c.in-Ok-Request.answered.told) t.step
-    c.if-answered.true c.in-Ok.ensures.gathers) _ _ c.close_with-then-answered.result c.close_with-then-answered.ensures.fault)
+    c.if-answered.true c.in-Ok.ensures.gathers) _ _ c.close_with-then-answered.result c.close_with-then-answered.ensures.err)
 
 pub returns-then-answered-clause-turns : goal.returns-then-answered-clause-turns
 returns-then-answered-clause-turns g c =

@@ -5,9 +5,9 @@ use Rattle.share_rules.proofs.party_keys.party_key.Goals as goal
 
 pub returns-clause-key : goal.returns-clause-key
 unfolding party_key
-returns-clause-key c = c.key_of.ensures.key ∙ ap (λ (bs : List ℕ). key_of c.args.side bs) (c.trimmed.ensures.value ∙ ap trimmed c.field.ensures.value)
+returns-clause-key c = c.key_of.ensures.key ∙ ap (λ (bs : List ℕ). key_of c.args.side bs) (c.trim.ensures.value ∙ ap trimmed c.field.ensures.value)
 
 pub returns-clause-bytes : goal.returns-clause-bytes
 returns-clause-bytes c =
     let P : List ℕ → Type 0 = λ bs. AreBytes bs in
-    subst P (c.trimmed.ensures.value ∙ ap trimmed c.field.ensures.value) c.key_of.ensures.bytes
+    subst P (c.trim.ensures.value ∙ ap trimmed c.field.ensures.value) c.key_of.ensures.bytes

@@ -15,7 +15,7 @@ returns-in-Some-clause-looks g c =
     does_also old new c.fold_run.result _ _ (looks_inside old new c.fold_run.result _ (rw c.as_bytes.ensures.bytes at c.fold_run.ensures.taken))
     (λ x both. (both.0, taken_runs s c.in-Some.next run c.fold_run.new.into old.now.trees at both.1))
 
-pub returns-in-Some-clause-errs : goal.returns-in-Some-clause-errs
-returns-in-Some-clause-errs g c =
+pub returns-in-Some-clause-err : goal.returns-in-Some-clause-err
+returns-in-Some-clause-err g c =
     run_errs c.args.sender.now c.in-Some.next c.args.run.now (state g.S.Store c.args.tx.now.conn.now) (state g.S.Store c.fold_run.new.tx.conn.now) c.fold_run.result (omega arith)
-    (rw c.as_bytes.ensures.bytes at c.fold_run.ensures.told) (rw c.as_bytes.ensures.bytes at c.fold_run.ensures.medium)
+    (rw c.as_bytes.ensures.bytes at c.fold_run.ensures.err) (rw c.as_bytes.ensures.bytes at c.fold_run.ensures.medium)

@@ -56,11 +56,11 @@ returns-clause-looks g c =
     (past_all c.args.sender.now ends c.args.begun c.args.run.now rank run _
     (ap (λ (k : ℕ). behind_end (base_of (segment_of rank)) k (end_listed ends (segment_of rank))) (sym c.reached.ensures) ∙ sym c.behind.ensures.value ∙ c.in_default.is))
 
-pub returns-in_err-go_on-clause-errs : goal.returns-in_err-go_on-clause-errs
-returns-in_err-go_on-clause-errs g c =
+pub returns-in_err-go_on-clause-err : goal.returns-in_err-go_on-clause-err
+returns-in_err-go_on-clause-err g c =
     let old = state g.S.Store c.args.tx.now.conn.now in
     let mid = state g.S.Store c.segments.tx.conn.now in
     let new = state g.S.Store c.go_on.new.tx.conn.now in
     errs_on (Unit {0}) KeepsUnsound KeepsUnsound old new c.in_err-go_on.field-0.0 c.from_residual.result
-    (errs_then {X = Unit {0}} {Y = Unit {0}} KeepsUnsound KeepsUnsound old mid new tt (Err c.in_err-go_on.field-0.0) (λ db _. RunsPast c.args.sender.now c.args.ends.now c.args.begun c.args.run.now c.segments.rank c.segments.run db) c.segments.invariant.looks c.in_err-go_on.ensures.looks.survives c.in_err-go_on.ensures.errs (λ found wrong. wrong))
+    (errs_then {X = Unit {0}} {Y = Unit {0}} KeepsUnsound KeepsUnsound old mid new tt (Err c.in_err-go_on.field-0.0) (λ db _. RunsPast c.args.sender.now c.args.ends.now c.args.begun c.args.run.now c.segments.rank c.segments.run db) c.segments.invariant.looks c.in_err-go_on.ensures.looks.survives c.in_err-go_on.ensures.err (λ found wrong. wrong))
     c.from_residual.ensures.1 (λ wrong. wrong)

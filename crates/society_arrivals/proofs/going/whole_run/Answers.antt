@@ -29,22 +29,22 @@ returns-clause-looks g c =
     let both = subst (λ (db : Database). RunsOn s begun on db.trees × RunsOver s ends 0 on y db.trees) one.0 two.1 in
     (two.0 ∙ one.0, whole_by o s begun on y ends old.now.trees c.new-run.ensures one.1 both.0 both.1))
 
-pub returns-in_err-ends-clause-errs : goal.returns-in_err-ends-clause-errs
-returns-in_err-ends-clause-errs g c =
-    errs_on SenderEnds KeepsUnsound KeepsUnsound (state g.S.Store c.args.tx.now.conn.now) (state g.S.Store c.ends_in.new.tx.conn.now) c.in_err-ends.field-0.0 c.from_residual.result c.in_err-ends.ensures.errs c.from_residual.ensures.1 (λ wrong. wrong)
+pub returns-in_err-ends-clause-err : goal.returns-in_err-ends-clause-err
+returns-in_err-ends-clause-err g c =
+    errs_on SenderEnds KeepsUnsound KeepsUnsound (state g.S.Store c.args.tx.now.conn.now) (state g.S.Store c.ends_in.new.tx.conn.now) c.in_err-ends.field-0.0 c.from_residual.result c.in_err-ends.ensures.err c.from_residual.ensures.1 (λ wrong. wrong)
 
-pub returns-in_err-go_on-clause-errs : goal.returns-in_err-go_on-clause-errs
-returns-in_err-go_on-clause-errs g c =
+pub returns-in_err-go_on-clause-err : goal.returns-in_err-go_on-clause-err
+returns-in_err-go_on-clause-err g c =
     let s = c.args.sender.now in
     let old = state g.S.Store c.args.tx.now.conn.now in
     let first = state g.S.Store c.ends_in.new.tx.conn.now in
     let new = state g.S.Store c.go_on.new.tx.conn.now in
     errs_on (Unit {0}) KeepsUnsound KeepsUnsound old new c.in_err-go_on.field-0.0 c.from_residual-in_err-go_on.result
-    (errs_then {Y = Unit {0}} KeepsUnsound KeepsUnsound old first new c.in_ok-ends.ends (Err c.in_err-go_on.field-0.0) (ReadsEnds s) (rw c.as_bytes.ensures.bytes at c.in_ok-ends.ensures.looks).does c.in_err-go_on.ensures.looks.survives c.in_err-go_on.ensures.errs (λ found wrong. wrong))
+    (errs_then {Y = Unit {0}} KeepsUnsound KeepsUnsound old first new c.in_ok-ends.ends (Err c.in_err-go_on.field-0.0) (ReadsEnds s) (rw c.as_bytes.ensures.bytes at c.in_ok-ends.ensures.looks).does c.in_err-go_on.ensures.looks.survives c.in_err-go_on.ensures.err (λ found wrong. wrong))
     c.from_residual-in_err-go_on.ensures.1 (λ wrong. wrong)
 
-pub returns-in_err-go_over-clause-errs : goal.returns-in_err-go_over-clause-errs
-returns-in_err-go_over-clause-errs g c =
+pub returns-in_err-go_over-clause-err : goal.returns-in_err-go_over-clause-err
+returns-in_err-go_over-clause-err g c =
     let s = c.args.sender.now in
     let old = state g.S.Store c.args.tx.now.conn.now in
     let first = state g.S.Store c.ends_in.new.tx.conn.now in
@@ -53,6 +53,6 @@ returns-in_err-go_over-clause-errs g c =
     errs_on (Unit {0}) KeepsUnsound KeepsUnsound old new c.in_err-go_over.field-0.0 c.from_residual-in_err-go_over.result
     (errs_then {Y = Unit {0}} KeepsUnsound KeepsUnsound old first new c.in_ok-ends.ends (Err c.in_err-go_over.field-0.0) (ReadsEnds s) (rw c.as_bytes.ensures.bytes at c.in_ok-ends.ensures.looks).does
     (survives_on first mid new c.in_ok-go_on.ensures.looks.survives c.in_err-go_over.ensures.looks.survives)
-    (errs_then {X = Unit {0}} {Y = Unit {0}} KeepsUnsound KeepsUnsound first mid new tt (Err c.in_err-go_over.field-0.0) (λ db _. RunsOn s c.new-run.result c.go_on.new.run db) c.in_ok-go_on.ensures.looks c.in_err-go_over.ensures.looks.survives c.in_err-go_over.ensures.errs (λ found wrong. wrong))
+    (errs_then {X = Unit {0}} {Y = Unit {0}} KeepsUnsound KeepsUnsound first mid new tt (Err c.in_err-go_over.field-0.0) (λ db _. RunsOn s c.new-run.result c.go_on.new.run db) c.in_ok-go_on.ensures.looks c.in_err-go_over.ensures.looks.survives c.in_err-go_over.ensures.err (λ found wrong. wrong))
     (λ found wrong. wrong))
     c.from_residual-in_err-go_over.ensures.1 (λ wrong. wrong)

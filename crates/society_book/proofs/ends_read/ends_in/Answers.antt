@@ -26,8 +26,8 @@ returns-clause-looks g c =
       answered = λ clean inside. on_ok c.ends_shown.result (c.in_ok-rows.ensures.read.was_open clean);
     }
 
-pub returns-clause-errs : goal.returns-clause-errs
-returns-clause-errs g c =
+pub returns-clause-err : goal.returns-clause-err
+returns-clause-err g c =
     let s = c.args.sender.now in
     let old = state g.S.Store c.args.tx.now.conn.now in
     let new = state g.S.Store c.answer.new.tx.conn.now in

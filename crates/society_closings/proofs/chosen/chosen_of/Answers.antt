@@ -38,7 +38,7 @@ returns-clause-looks g c =
     looks_as (state g.S.Store c.args.tx.now.conn.now) (state g.S.Store c.loop-work.tx.conn.now) tt (Ok c.loop-work.chosen) _ _ c.loop-work.invariant.looks
     (λ first o b holds within. subst (λ (xs : List (List ℕ)). Chooses o b c.args.key.now (λ q. list_any (bytes_eq q) xs) c.loop-work.chosen) (take_all c.loop-work.work-index all c.loop-work-test.false) (first o b holds within))
 
-pub returns-in_err-choose_work-clause-errs : goal.returns-in_err-choose_work-clause-errs
-returns-in_err-choose_work-clause-errs g c =
+pub returns-in_err-choose_work-clause-err : goal.returns-in_err-choose_work-clause-err
+returns-in_err-choose_work-clause-err g c =
     errs_passed (Unit {0}) HoldNoWorks HoldNoWorks (state g.S.Store c.args.tx.now.conn.now) (state g.S.Store c.loop-work.tx.conn.now) (state g.S.Store c.choose_work.new.tx.conn.now) tt _ c.from_residual.result _ _
-    c.loop-work.invariant.looks c.in_err-choose_work.ensures.looks c.in_err-choose_work.ensures.errs c.from_residual.ensures.1 (λ first no. no)
+    c.loop-work.invariant.looks c.in_err-choose_work.ensures.looks c.in_err-choose_work.ensures.err c.from_residual.ensures.1 (λ first no. no)

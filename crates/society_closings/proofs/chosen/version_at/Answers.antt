@@ -31,14 +31,14 @@ returns-clause-looks g c =
     (λ version is o b holds within. is ∙ ap (λ (rows : List Row). option_map version_shown (row_up_to cut rows)) c.as_slice.ensures.value ∙ version_found o b _ holds s w cut back _ lists)
     c.last_up_to.ensures.version)
 
-pub returns-in_err-rows-clause-errs : goal.returns-in_err-rows-clause-errs
-returns-in_err-rows-clause-errs g c =
+pub returns-in_err-rows-clause-err : goal.returns-in_err-rows-clause-err
+returns-in_err-rows-clause-err g c =
     let old = state g.S.Store c.args.tx.now.conn.now in
     let new = state g.S.Store c.answer.new.tx.conn.now in
-    errs_on (Vec Row Global) HoldNoWorks HoldNoWorks old new _ c.from_residual.result (errs_of {X = Vec Row Global} HoldNoWorks old new (Err _) c.in_err-rows.ensures.told c.in_err-rows.ensures.medium) c.from_residual.ensures.1 (λ h. h)
+    errs_on (Vec Row Global) HoldNoWorks HoldNoWorks old new _ c.from_residual.result (errs_of {X = Vec Row Global} HoldNoWorks old new (Err _) c.in_err-rows.ensures.err c.in_err-rows.ensures.medium) c.from_residual.ensures.1 (λ h. h)
 
-pub returns-clause-errs : goal.returns-clause-errs
-returns-clause-errs g c =
+pub returns-clause-err : goal.returns-clause-err
+returns-clause-err g c =
     let old = state g.S.Store c.args.tx.now.conn.now in
     let new = state g.S.Store c.answer.new.tx.conn.now in
     let rows = c.as_slice.result.now in

@@ -38,15 +38,15 @@ returns-clause-looks g c =
     (adds (body_at b key.sender n) (subst (ShowBody (body_at b key.sender n)) (sym c.as_slice.ensures.value) (transmission_shows_by b _ holds.kept.transmissions (transmission_key key.sender n) _ lists))))
     (shown_all c.add_shown.result rows P c.add_shown.ensures.adds))
 
-pub returns-in_err-rows-clause-errs : goal.returns-in_err-rows-clause-errs
-returns-in_err-rows-clause-errs g c =
+pub returns-in_err-rows-clause-err : goal.returns-in_err-rows-clause-err
+returns-in_err-rows-clause-err g c =
     let Wrong = LackNumber c.args.weighing.now.office.now c.args.key.now c.args.number in
     let old = state g.S.Store c.args.tx.now.conn.now in
     let new = state g.S.Store c.answer.new.tx.conn.now in
-    errs_on (Vec Row Global) Wrong Wrong old new _ c.from_residual.result (errs_of {X = Vec Row Global} Wrong old new (Err _) c.in_err-rows.ensures.told c.in_err-rows.ensures.medium) c.from_residual.ensures.1 (λ h. h)
+    errs_on (Vec Row Global) Wrong Wrong old new _ c.from_residual.result (errs_of {X = Vec Row Global} Wrong old new (Err _) c.in_err-rows.ensures.err c.in_err-rows.ensures.medium) c.from_residual.ensures.1 (λ h. h)
 
-pub returns-clause-errs : goal.returns-clause-errs
-returns-clause-errs g c =
+pub returns-clause-err : goal.returns-clause-err
+returns-clause-err g c =
     let o = c.args.weighing.now.office.now in
     let key = c.args.key.now in
     let n = c.args.number in

@@ -49,8 +49,8 @@ returns-clause-looks g c =
     set_adds (holders_of c.args.weighing.now.kind o) o b key (is_tallied c.args.weighing.now.tally.now) c.args.chosen.now right c.transmissions.ensures.ordered old_list new_list
     (subst (λ (ns : List ℕ). AddsCandidates (holders_of c.args.weighing.now.kind o) (is_tallied c.args.weighing.now.tally.now) (versions_in o b key ns) old_list new_list) named (first b holds right)))
 
-pub returns-in_err-numbers-clause-errs : goal.returns-in_err-numbers-clause-errs
-returns-in_err-numbers-clause-errs g c =
+pub returns-in_err-numbers-clause-err : goal.returns-in_err-numbers-clause-err
+returns-in_err-numbers-clause-err g c =
     let old = state g.S.Store c.args.tx.now.conn.now in
     errs_memory (LackChosen c.args.weighing.now.office.now c.args.key.now (is_tallied c.args.weighing.now.tally.now) c.args.chosen.now) old old c.from_residual.result c.from_residual.ensures.1
 
@@ -59,8 +59,8 @@ returns-in_err-add_transmission-clause-looks g c =
     looks_failed (Unit {0}) (state g.S.Store c.args.tx.now.conn.now) (state g.S.Store c.loop-number.tx.conn.now) (state g.S.Store c.add_transmission.new.tx.conn.now) tt _ c.from_residual-in_err-add_transmission.result _ _ _
     c.loop-number.invariant.looks c.in_err-add_transmission.ensures.looks c.from_residual-in_err-add_transmission.ensures.1
 
-pub returns-in_err-add_transmission-clause-errs : goal.returns-in_err-add_transmission-clause-errs
-returns-in_err-add_transmission-clause-errs g c =
+pub returns-in_err-add_transmission-clause-err : goal.returns-in_err-add_transmission-clause-err
+returns-in_err-add_transmission-clause-err g c =
     let o = c.args.weighing.now.office.now in
     let key = c.args.key.now in
     let of_these = is_tallied c.args.weighing.now.tally.now in
@@ -68,5 +68,5 @@ returns-in_err-add_transmission-clause-errs g c =
     let i = c.loop-number.number-index in
     let n = c.number-item.result in
     errs_passed (Unit {0}) (LackNumber o key n) (LackChosen o key of_these c.args.chosen.now) (state g.S.Store c.args.tx.now.conn.now) (state g.S.Store c.loop-number.tx.conn.now) (state g.S.Store c.add_transmission.new.tx.conn.now) tt _ c.from_residual-in_err-add_transmission.result _ _
-    c.loop-number.invariant.looks c.in_err-add_transmission.ensures.looks c.in_err-add_transmission.ensures.errs c.from_residual-in_err-add_transmission.ensures.1
+    c.loop-number.invariant.looks c.in_err-add_transmission.ensures.looks c.in_err-add_transmission.ensures.err c.from_residual-in_err-add_transmission.ensures.1
     (λ first no b holds right. no b holds (listed_within o b key of_these c.args.chosen.now right all i n (c.as_slice-number-items.ensures.value ∙ c.in_ok-numbers.ensures.numbers) c.number-item.is c.loop-number-test.true))

@@ -23,18 +23,18 @@ returns-clause-looks g c =
     does_also (state g.S.Store c.args.tx.now.conn.now) (state g.S.Store c.candidates_of.new.tx.conn.now) c.candidates_of.result _ _ (rw c.cut-2.ensures.value at c.candidates_of.ensures.looks)
     (λ found said. (said.0, λ lists b holds reached. said.1 b holds (recordings_noted cut (is_tallied tally) (state g.S.Store c.args.tx.now.conn.now).now.trees works named lists senders listed) (all_asked named cut (λ s h. senders s ∙ h)) reached))
 
-pub returns-in_err-recordings-clause-errs : goal.returns-in_err-recordings-clause-errs
-returns-in_err-recordings-clause-errs g c =
+pub returns-in_err-recordings-clause-err : goal.returns-in_err-recordings-clause-err
+returns-in_err-recordings-clause-err g c =
     let old = state g.S.Store c.args.tx.now.conn.now in
     errs_memory (LackCut c.args.office.now c.args.order.now c.args.tally.now c.args.works.now) old old c.from_residual.result c.from_residual.ensures.1
 
-pub returns-in_err-named-clause-errs : goal.returns-in_err-named-clause-errs
-returns-in_err-named-clause-errs g c =
+pub returns-in_err-named-clause-err : goal.returns-in_err-named-clause-err
+returns-in_err-named-clause-err g c =
     let old = state g.S.Store c.args.tx.now.conn.now in
     errs_memory (LackCut c.args.office.now c.args.order.now c.args.tally.now c.args.works.now) old old c.from_residual-in_err-named.result c.from_residual-in_err-named.ensures.1
 
-pub returns-clause-errs : goal.returns-clause-errs
-returns-clause-errs g c =
+pub returns-clause-err : goal.returns-clause-err
+returns-clause-err g c =
     let o = c.args.office.now in
     let tally = c.args.tally.now in
     let works = c.args.works.now in
@@ -43,5 +43,5 @@ returns-clause-errs g c =
     let old = state g.S.Store c.args.tx.now.conn.now in
     let senders = λ (s : List ℕ). c.in_ok-named.ensures.senders s ∙ ap (λ keys. is_of_cut keys s) c.cut.ensures.value in
     let listed = λ (q : List ℕ) (is : is_tallied tally q ≡ true). c.in_ok-named.ensures.listed q (ap (λ (xs : List (List ℕ)). list_any (bytes_eq q) xs) c.as_slice.ensures.value ∙ sym (c.in_ok-recordings.ensures.tallied q) ∙ is) in
-    errs_where (LackSenders o cut (is_tallied tally) named) (LackCut o c.args.order.now tally works) old (state g.S.Store c.candidates_of.new.tx.conn.now) c.candidates_of.result (rw c.cut-2.ensures.value at c.candidates_of.ensures.errs)
+    errs_where (LackSenders o cut (is_tallied tally) named) (LackCut o c.args.order.now tally works) old (state g.S.Store c.candidates_of.new.tx.conn.now) c.candidates_of.result (rw c.cut-2.ensures.value at c.candidates_of.ensures.err)
     (λ no lists b holds reached. no b holds (recordings_noted cut (is_tallied tally) old.now.trees works named lists senders listed) (all_asked named cut (λ s h. senders s ∙ h)) reached)

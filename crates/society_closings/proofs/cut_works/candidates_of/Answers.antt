@@ -47,8 +47,8 @@ returns-in_err-add_sender-clause-looks g c =
     looks_failed (Unit {0}) (state g.S.Store c.args.tx.now.conn.now) (state g.S.Store c.loop-key.tx.conn.now) (state g.S.Store c.add_sender.new.tx.conn.now) tt _ c.from_residual.result _ _ _
     c.loop-key.invariant.looks c.in_err-add_sender.ensures.looks c.from_residual.ensures.1
 
-pub returns-in_err-add_sender-clause-errs : goal.returns-in_err-add_sender-clause-errs
-returns-in_err-add_sender-clause-errs g c =
+pub returns-in_err-add_sender-clause-err : goal.returns-in_err-add_sender-clause-err
+returns-in_err-add_sender-clause-err g c =
     let o = c.args.office.now in
     let of_these = is_tallied c.args.tally.now in
     let named = c.args.named.now in
@@ -56,7 +56,7 @@ returns-in_err-add_sender-clause-errs g c =
     let i = c.loop-key.key-index in
     let key = c.key-item.result in
     errs_passed (Unit {0}) (LackSender o key of_these named) (LackSenders o cut of_these named) (state g.S.Store c.args.tx.now.conn.now) (state g.S.Store c.loop-key.tx.conn.now) (state g.S.Store c.add_sender.new.tx.conn.now) tt _ c.from_residual.result _ _
-    c.loop-key.invariant.looks c.in_err-add_sender.ensures.looks c.in_err-add_sender.ensures.errs c.from_residual.ensures.1
+    c.loop-key.invariant.looks c.in_err-add_sender.ensures.looks c.in_err-add_sender.ensures.err c.from_residual.ensures.1
     (λ first no b holds notes asked reached. no b holds notes
     (ap (λ (k : TransmissionKey). notes_of_sender named k.sender) c.key-item.is ∙ all_at (λ (k : TransmissionKey). notes_of_sender named k.sender) cut i key asked c.loop-key-test.true)
     (ap (is_applied b) c.key-item.is ∙ all_at (is_applied b) cut i key reached c.loop-key-test.true))

@@ -30,15 +30,15 @@ returns-clause-looks g c =
     (λ o b before holds. c.add_performances.ensures.counted (return_at b key) before (shows o b holds))
     (λ o b holds. c.add_performances.ensures.limit (return_at b key) (shows o b holds)))
 
-pub returns-in_err-rows-clause-errs : goal.returns-in_err-rows-clause-errs
-returns-in_err-rows-clause-errs g c =
+pub returns-in_err-rows-clause-err : goal.returns-in_err-rows-clause-err
+returns-in_err-rows-clause-err g c =
     let Wrong = LackReturn c.args.key.now in
     let old = state g.S.Store c.args.tx.now.conn.now in
     let new = state g.S.Store c.answer.new.tx.conn.now in
-    errs_on (Vec Row Global) Wrong Wrong old new _ c.from_residual.result (errs_of {X = Vec Row Global} Wrong old new (Err _) c.in_err-rows.ensures.told c.in_err-rows.ensures.medium) c.from_residual.ensures.1 (λ h. h)
+    errs_on (Vec Row Global) Wrong Wrong old new _ c.from_residual.result (errs_of {X = Vec Row Global} Wrong old new (Err _) c.in_err-rows.ensures.err c.in_err-rows.ensures.medium) c.from_residual.ensures.1 (λ h. h)
 
-pub returns-clause-errs : goal.returns-clause-errs
-returns-clause-errs g c =
+pub returns-clause-err : goal.returns-clause-err
+returns-clause-err g c =
     let key = c.args.key.now in
     let rows = c.as_slice.result.now in
     let old = state g.S.Store c.args.tx.now.conn.now in

@@ -33,17 +33,17 @@ returns-clause-looks g c =
     (subst (λ (right : Kind). StandFor (holders_of right o) (is_tallied tally) (works_of_cut o b order) c.deref.result.now) c.kind.ensures
     (subst (StandFor (holders_of c.kind.result o) (is_tallied tally) (works_of_cut o b order)) (sym c.deref.ensures.value) (stand ready.0 b ready.1 ready.2))))))
 
-pub returns-in_err-candidates-clause-errs : goal.returns-in_err-candidates-clause-errs
-returns-in_err-candidates-clause-errs g c =
+pub returns-in_err-candidates-clause-err : goal.returns-in_err-candidates-clause-err
+returns-in_err-candidates-clause-err g c =
     let o = c.args.office.now in
     let order = c.args.order.now in
     let tally = c.args.tally.now in
     let works = c.args.works.now in
     errs_on (Vec Candidate Global) (LackCut o order tally works) (LackTallied o order tally works) (state g.S.Store c.args.tx.now.conn.now) (state g.S.Store c.candidates_in.new.tx.conn.now) _ c.from_residual.result
-    c.in_err-candidates.ensures.errs c.from_residual.ensures.1 (λ no listed b holds reached tallied few. no listed b holds reached)
+    c.in_err-candidates.ensures.err c.from_residual.ensures.1 (λ no listed b holds reached tallied few. no listed b holds reached)
 
-pub returns-clause-errs : goal.returns-clause-errs
-returns-clause-errs g c =
+pub returns-clause-err : goal.returns-clause-err
+returns-clause-err g c =
     let o = c.args.office.now in
     let order = c.args.order.now in
     let tally = c.args.tally.now in

@@ -22,21 +22,21 @@ returns-clause-looks g c =
     let its = subst (λ (ks : List ReturnKey). Tallies tally (flat_map (rows_of_return b) ks)) c.returns.ensures.value (tallied o b holds c.returns.ensures.limit).0 in
     pays (lists_tallied o b order old.now.trees works tally holds its lists) b holds reached its)
 
-pub returns-in_err-tally-clause-errs : goal.returns-in_err-tally-clause-errs
-returns-in_err-tally-clause-errs g c =
+pub returns-in_err-tally-clause-err : goal.returns-in_err-tally-clause-err
+returns-in_err-tally-clause-err g c =
     let o = c.args.office.now in
     let order = c.args.order.now in
     errs_on Tally (LackReturns order.returns) (CannotPayAmong o order c.args.works.now) (state g.S.Store c.args.tx.now.conn.now) (state g.S.Store c.tally_of.new.tx.conn.now) _ c.from_residual.result
-    (rw c.returns.ensures.value at c.in_err-tally.ensures.errs) c.from_residual.ensures.1 (λ no lists b holds pays. no o b holds pays.returns)
+    (rw c.returns.ensures.value at c.in_err-tally.ensures.err) c.from_residual.ensures.1 (λ no lists b holds pays. no o b holds pays.returns)
 
-pub returns-clause-errs : goal.returns-clause-errs
-returns-clause-errs g c =
+pub returns-clause-err : goal.returns-clause-err
+returns-clause-err g c =
     let o = c.args.office.now in
     let order = c.args.order.now in
     let tally = c.in_ok-tally.tally in
     let works = c.args.works.now in
     let old = state g.S.Store c.args.tx.now.conn.now in
-    errs_then (LackTallied o order tally works) (CannotPayAmong o order works) old (state g.S.Store c.tally_of.new.tx.conn.now) (state g.S.Store c.credits_for.new.tx.conn.now) tally c.credits_for.result _ c.in_ok-tally.ensures.looks c.credits_for.ensures.looks.survives c.credits_for.ensures.errs
+    errs_then (LackTallied o order tally works) (CannotPayAmong o order works) old (state g.S.Store c.tally_of.new.tx.conn.now) (state g.S.Store c.credits_for.new.tx.conn.now) tally c.credits_for.result _ c.in_ok-tally.ensures.looks c.credits_for.ensures.looks.survives c.credits_for.ensures.err
     (λ tallied no lists b holds pays.
     let its = tallied o b holds c.returns.ensures.limit in
     let counted = subst (λ (ks : List ReturnKey). Tallies tally (flat_map (rows_of_return b) ks)) c.returns.ensures.value its.0 in

@@ -51,11 +51,11 @@ returns-clause-looks g c =
       omega (arith, ap (λ (ks : List ReturnKey). length (flat_map (rows_of_return b) ks)) whole, it.1, few, c.loop-key.auto.key-index-end),
     ))
 
-pub returns-in_err-add_return-clause-errs : goal.returns-in_err-add_return-clause-errs
-returns-in_err-add_return-clause-errs g c =
+pub returns-in_err-add_return-clause-err : goal.returns-in_err-add_return-clause-err
+returns-in_err-add_return-clause-err g c =
     let keys = c.args.returns.now in
     let i = c.loop-key.key-index in
     let key = c.key-item.result in
     errs_passed (Unit {0}) (LackReturn key) (LackReturns keys) (state g.S.Store c.args.tx.now.conn.now) (state g.S.Store c.loop-key.tx.conn.now) (state g.S.Store c.add_return.new.tx.conn.now) tt _ c.from_residual.result _ _
-    c.loop-key.invariant.looks c.in_err-add_return.ensures.looks c.in_err-add_return.ensures.errs c.from_residual.ensures.1
+    c.loop-key.invariant.looks c.in_err-add_return.ensures.looks c.in_err-add_return.ensures.err c.from_residual.ensures.1
     (λ first no o b holds there. no o b holds (ap (λ (k : ReturnKey). is_some (return_at b k)) c.key-item.is ∙ all_at (λ (k : ReturnKey). is_some (return_at b k)) keys i key there (omega (arith, c.loop-key-test.true))))

@@ -5,14 +5,14 @@ use Rattle.society_commands.proofs.auditing.audit_database.Goals as goal
 pub returns-in-Ok-clause-sound : goal.returns-in-Ok-clause-sound
 returns-in-Ok-clause-sound g c = λ zero. (record { sound = c.in-Ok.ensures.sound; crash = c.in-Ok.ensures.crash }, c.print.ensures)
 
-pub returns-in-Err-clause-fault : goal.returns-in-Err-clause-fault
-returns-in-Err-clause-fault g c = λ one. (
+pub returns-in-Err-clause-err : goal.returns-in-Err-clause-err
+returns-in-Err-clause-err g c = λ one. (
   record {
     not_opened = record {
       fault = c.in-Err.fault;
-      told = c.in-Err.ensures.told;
+      told = c.in-Err.ensures.err;
       empty = λ existing opened none. c.in-Err.ensures.empty opened none;
-      failed = c.in-Err.ensures.failed;
+      failed = c.in-Err.ensures.medium;
       unchanged = c.in-Err.ensures.unchanged;
       crash = crash_there c.args.office.now _ _ c.in-Err.ensures.crash;
     };

@@ -8,11 +8,11 @@ returns-then-existing-clause-over g c =
     (over_existing c.args.office.now (state g.M.Store c.args.connection) (λ t. t.office) (λ t. state g.M.Store t.conn) (λ t. t.failures) (state g.M.Store) _
     c.open_existing.result c.open_existing.ensures.office c.open_existing.ensures.empty c.open_existing.ensures.audited c.open_existing.ensures.crash)
 
-pub returns-then-existing-clause-fault : goal.returns-then-existing-clause-fault
-returns-then-existing-clause-fault g c =
+pub returns-then-existing-clause-err : goal.returns-then-existing-clause-err
+returns-then-existing-clause-err g c =
     rw c.if-existing.true
     (not_existing c.args.office.now (state g.M.Store c.args.connection) (λ t. t.office) (λ t. state g.M.Store t.conn) (λ t. t.failures) (state g.M.Store) _
-    c.open_existing.result c.open_existing.ensures.told c.open_existing.ensures.empty c.open_existing.ensures.failed c.open_existing.ensures.unchanged c.open_existing.ensures.crash)
+    c.open_existing.result c.open_existing.ensures.err c.open_existing.ensures.empty c.open_existing.ensures.medium c.open_existing.ensures.unchanged c.open_existing.ensures.crash)
 
 pub returns-else-existing-clause-over : goal.returns-else-existing-clause-over
 returns-else-existing-clause-over g c =
@@ -20,8 +20,8 @@ returns-else-existing-clause-over g c =
     (over_any c.args.office.now (state g.M.Store c.args.connection) (λ t. t.office) (λ t. state g.M.Store t.conn) (λ t. t.failures) (state g.M.Store)
     c.open.result c.open.ensures.office c.open.ensures.known c.open.ensures.begun c.open.ensures.audited c.open.ensures.taken c.open.ensures.crash)
 
-pub returns-else-existing-clause-fault : goal.returns-else-existing-clause-fault
-returns-else-existing-clause-fault g c =
+pub returns-else-existing-clause-err : goal.returns-else-existing-clause-err
+returns-else-existing-clause-err g c =
     rw c.if-existing.false
     (not_any c.args.office.now (state g.M.Store c.args.connection) (λ t. t.office) (λ t. state g.M.Store t.conn) (λ t. t.failures) (state g.M.Store)
-    c.open.result c.open.ensures.told c.open.ensures.failed c.open.ensures.unchanged c.open.ensures.crash)
+    c.open.result c.open.ensures.err c.open.ensures.medium c.open.ensures.unchanged c.open.ensures.crash)

@@ -17,4 +17,4 @@ returns-in-Ok-clause-broken_off g c = λ one.
     (c.serve_store-status.ensures.broken_off one)
 
 pub returns-in-Err-clause-broken_off : goal.returns-in-Err-clause-broken_off
-returns-in-Err-clause-broken_off g c = λ one. (c.in-Err.ensures.fault, refl)
+returns-in-Err-clause-broken_off g c = λ one. (c.in-Err.ensures.err, refl)

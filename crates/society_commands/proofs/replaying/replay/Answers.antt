@@ -27,4 +27,4 @@ returns-clause-broken_off g c = λ one.
     let last = c.serve.new.desk in
     let same = ap (λ s. s.office) c.new-desk.ensures ∙ c.in-Ok.ensures.office in
     let empty = ap (λ s. (tables_state s.office (state over_memory s.conn) s.failures).book) c.new-desk.ensures ∙ c.in-Ok.ensures.empty in
-    breaks_off_from first last (λ t. tables_state t.office (state over_memory t.conn) t.failures) c.args.office.now g.R.Read.remaining g.W.Write.contents c.args.reader.now c.serve.new.reader c.args.out.now c.serve.new.writer same empty refl c.in-Err.fault c.in-Err.ensures.fault.breaks c.in-Err.ensures.fault.cause
+    breaks_off_from first last (λ t. tables_state t.office (state over_memory t.conn) t.failures) c.args.office.now g.R.Read.remaining g.W.Write.contents c.args.reader.now c.serve.new.reader c.args.out.now c.serve.new.writer same empty refl c.in-Err.fault c.in-Err.ensures.err.breaks c.in-Err.ensures.err.cause

@@ -19,7 +19,7 @@ returns-in-Ok-outcome-clause-served g c = λ zero.
 
 pub returns-clause-broken_off : goal.returns-clause-broken_off
 returns-clause-broken_off g c = λ one.
-    let came = rw c.in-Err.is at c.serve_connections-outcome.ensures.fault in
+    let came = rw c.in-Err.is at c.serve_connections-outcome.ensures.err in
     let outcome = c.serve_connections-outcome in
     inr (
       came.0,
@@ -35,4 +35,4 @@ returns-clause-broken_off g c = λ one.
     )
 
 pub returns-in_default-clause-broken_off : goal.returns-in_default-clause-broken_off
-returns-in_default-clause-broken_off g c = λ one. inl ((c.new-address.result, (ap ipv4_octets c.new-address.ensures.ip, c.new-address.ensures.port), c.in_default.ensures.fault), refl, refl)
+returns-in_default-clause-broken_off g c = λ one. inl ((c.new-address.result, (ap ipv4_octets c.new-address.ensures.ip, c.new-address.ensures.port), c.in_default.ensures.err), refl, refl)

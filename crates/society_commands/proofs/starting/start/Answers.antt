@@ -75,7 +75,7 @@ pub returns-in-Ok-Audit-clause-sound : goal.returns-in-Ok-Audit-clause-sound
 returns-in-Ok-Audit-clause-sound g c = λ wants zero. (c.in-Ok-Audit.path.now, c.in-Ok-Audit.office, asks_to_audit _ c.in-Ok-Audit.path c.in-Ok-Audit.office (rw c.in-Ok-Audit.field-0-is at c.in-Ok-Audit.ensures.ok), c.audit_file-status.ensures.sound zero)
 
 pub returns-in-Ok-Audit-clause-unsound : goal.returns-in-Ok-Audit-clause-unsound
-returns-in-Ok-Audit-clause-unsound g c = λ wants one. (c.in-Ok-Audit.path.now, c.in-Ok-Audit.office, asks_to_audit _ c.in-Ok-Audit.path c.in-Ok-Audit.office (rw c.in-Ok-Audit.field-0-is at c.in-Ok-Audit.ensures.ok), c.audit_file-status.ensures.fault one)
+returns-in-Ok-Audit-clause-unsound g c = λ wants one. (c.in-Ok-Audit.path.now, c.in-Ok-Audit.office, asks_to_audit _ c.in-Ok-Audit.path c.in-Ok-Audit.office (rw c.in-Ok-Audit.field-0-is at c.in-Ok-Audit.ensures.ok), c.audit_file-status.ensures.err one)
 
 pub returns-in-Ok-BadName-clause-help : goal.returns-in-Ok-BadName-clause-help
 returns-in-Ok-BadName-clause-help g c = λ help. absurd (read_no_help _ _ c.in-Ok-BadName.ensures.ok help)

@@ -37,4 +37,4 @@ returns-in-Err-clause-examined g c =
     let new = state g.S.Store c.are_numbered.new.tx.conn.now in
     examines_failed {X = Bool} (λ db. AreNumbered (table_called c.args.table) db → ⊥) old new c.in-Err.fault c.fault_of_reading.result _ _
     (looks_of old new (Err c.in-Err.fault) _ (reads_where (HasTable c.args.table) HasLayout old new _ _ (has_table c.args.table old.now) c.in-Err.ensures.read))
-    (λ inside clean has. c.in-Err.ensures.medium clean (has_table c.args.table old.now has)) c.fault_of_reading.ensures.told
+    (λ inside clean has. c.in-Err.ensures.medium clean (has_table c.args.table old.now has)) c.fault_of_reading.ensures.value

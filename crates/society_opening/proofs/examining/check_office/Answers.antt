@@ -30,8 +30,8 @@ returns-then-eq-clause-same c =
     ∙ ap (λ r. r ∷ []) (sym c.row-item.is ∙ sym c.in-Ok.ensures.value ∙ office_is c.args.layout c.in-Ok.row c.args.office.now (c.if-row-from.true ∙ c.from.ensures) (c.if-row-from-2.true ∙ c.from-then-row-from.ensures)
     ((bytes_eq-Decides c.in-Ok.row.name.now c.name.result.now).0 (sym c.eq.ensures ∙ c.if-eq.true) ∙ c.name.ensures))
 
-pub returns-else-row-from-clause-told : goal.returns-else-row-from-clause-told
-returns-else-row-from-clause-told c =
+pub returns-else-row-from-clause-err : goal.returns-else-row-from-clause-err
+returns-else-row-from-clause-err c =
     let one = one_row c.args.rows.now c.row-item.result (omega (arith, c.in-len1.len_at_least)) (omega (arith, c.in-len1.len_below)) ∙ ap (λ r. r ∷ []) (sym c.row-item.is ∙ sym c.in-Ok.ensures.value) in
     let o = c.args.office.now in
     let same = λ (h : c.args.rows.now ≡ office_row_under c.args.layout o ∷ []). head_same (office_values_under c.args.layout c.in-Ok.row) (office_row_under c.args.layout o) (sym one ∙ h) in (

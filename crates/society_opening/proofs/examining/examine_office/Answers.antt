@@ -43,12 +43,12 @@ returns-in_err-examine_whole-clause-does g c =
     (λ has said. subst HasLayout (sym said.0) has)
     (over_examined (HoldsNot c.args.office.now) mid new _ _ c.in_err-examine_whole.ensures.examined) c.from_residual-in_err-examine_whole.ensures.0
 
-pub returns-in_err-office_agrees-clause-told : goal.returns-in_err-office_agrees-clause-told
-returns-in_err-office_agrees-clause-told g c clean inside has =
-    told_on 3 c.args.office.now _ c.in_err-office_agrees.field-0.0 c.from_residual.result (c.in_err-office_agrees.ensures.told clean inside (has_table name.Office _ has)) c.from_residual.ensures.1
+pub returns-in_err-office_agrees-clause-err : goal.returns-in_err-office_agrees-clause-err
+returns-in_err-office_agrees-clause-err g c clean inside has =
+    told_on 3 c.args.office.now _ c.in_err-office_agrees.field-0.0 c.from_residual.result (c.in_err-office_agrees.ensures.err clean inside (has_table name.Office _ has)) c.from_residual.ensures.1
 
-pub returns-in_err-examine_whole-clause-told : goal.returns-in_err-examine_whole-clause-told
-returns-in_err-examine_whole-clause-told g c clean inside has =
+pub returns-in_err-examine_whole-clause-err : goal.returns-in_err-examine_whole-clause-err
+returns-in_err-examine_whole-clause-err g c clean inside has =
     let before = clean_before _ _ c.in_err-examine_whole.ensures.examined.survives clean in
     told_judged 3 c.args.office.now _ c.in_err-examine_whole.field-0.0 c.from_residual-in_err-examine_whole.result (c.in_ok-office_agrees.ensures.finds.says before inside (has_table name.Office _ has)).1 c.from_residual-in_err-examine_whole.ensures.1
 
@@ -67,13 +67,13 @@ returns-in_err-examine_whole-clause-damaged g c clean inside has =
     damaged_so _ c.in_err-examine_whole.field-0.0 c.from_residual-in_err-examine_whole.result c.from_residual-in_err-examine_whole.ensures.1
     (λ held. aside_by (HoldsOwnBook o) mid new c.in_err-examine_whole.field-0.0 says (subst (λ (db : Database). HoldsOwnBook o db.trees) (sym said.0) held))
 
-pub returns-in_err-office_agrees-clause-failed : goal.returns-in_err-office_agrees-clause-failed
-returns-in_err-office_agrees-clause-failed g c inside clean has =
+pub returns-in_err-office_agrees-clause-medium : goal.returns-in_err-office_agrees-clause-medium
+returns-in_err-office_agrees-clause-medium g c inside clean has =
     failed_by (MayFail (state g.S.Store c.args.tx.now.conn.now) (state g.S.Store c.office_agrees.new.tx.conn.now)) c.in_err-office_agrees.field-0.0 c.from_residual.result c.from_residual.ensures.1
-    (c.in_err-office_agrees.ensures.failed inside clean (has_table name.Office _ has))
+    (c.in_err-office_agrees.ensures.medium inside clean (has_table name.Office _ has))
 
-pub returns-in_err-examine_whole-clause-failed : goal.returns-in_err-examine_whole-clause-failed
-returns-in_err-examine_whole-clause-failed g c inside clean has =
+pub returns-in_err-examine_whole-clause-medium : goal.returns-in_err-examine_whole-clause-medium
+returns-in_err-examine_whole-clause-medium g c inside clean has =
     let old = state g.S.Store c.args.tx.now.conn.now in
     let mid = state g.S.Store c.office_agrees.new.tx.conn.now in
     let new = state g.S.Store c.examine_whole.new.tx.conn.now in
@@ -83,7 +83,7 @@ returns-in_err-examine_whole-clause-failed g c inside clean has =
     let said = finds.says before inside (has_table name.Office _ has) in
     let says = c.in_err-examine_whole.ensures.examined.faults clean (finds.inside before inside) (subst HasLayout (sym said.0) has) in
     failed_by (MayFail old new) (open_fault_by f) c.from_residual-in_err-examine_whole.result c.from_residual-in_err-examine_whole.ensures.1
-    (λ told. may_on old mid new finds.survives before c.in_err-examine_whole.ensures.examined.survives.counts (store_of (HoldsNot c.args.office.now) mid new f says told))
+    (λ err. may_on old mid new finds.survives before c.in_err-examine_whole.ensures.examined.survives.counts (store_of (HoldsNot c.args.office.now) mid new f says err))
 
 pub returns-in_err-examine_whole-clause-there : goal.returns-in_err-examine_whole-clause-there
 returns-in_err-examine_whole-clause-there g c = there_by c.in_err-examine_whole.field-0.0 c.from_residual-in_err-examine_whole.result c.from_residual-in_err-examine_whole.ensures.1

@@ -25,12 +25,12 @@ returns-in_err-rows-clause-finds g c =
     let new = state g.S.Store c.all_rows.new.tx.conn.now in
     over_not (HasTable name.Office) old new c.in_err-rows.field-0.0 c.from_residual.result _ _ (over_reads (HasTable name.Office) old new (Err c.in_err-rows.field-0.0) _ c.in_err-rows.ensures.read) c.from_residual.ensures.0
 
-pub returns-clause-told : goal.returns-clause-told
-returns-clause-told g c clean inside was =
-    told_listed c.args.number c.args.office.now _ _ _ c.check_office.result (c.in_ok-rows.ensures.read.found clean was) (rw c.as_slice.ensures.value at c.check_office.ensures.told)
+pub returns-clause-err : goal.returns-clause-err
+returns-clause-err g c clean inside was =
+    told_listed c.args.number c.args.office.now _ _ _ c.check_office.result (c.in_ok-rows.ensures.read.found clean was) (rw c.as_slice.ensures.value at c.check_office.ensures.err)
 
-pub returns-in_err-rows-clause-told : goal.returns-in_err-rows-clause-told
-returns-in_err-rows-clause-told g c clean inside was = told_failed c.args.number c.args.office.now _ c.in_err-rows.field-0.0 c.from_residual.result c.from_residual.ensures.1
+pub returns-in_err-rows-clause-err : goal.returns-in_err-rows-clause-err
+returns-in_err-rows-clause-err g c clean inside was = told_failed c.args.number c.args.office.now _ c.in_err-rows.field-0.0 c.from_residual.result c.from_residual.ensures.1
 
 pub returns-in_err-rows-clause-other : goal.returns-in_err-rows-clause-other
 returns-in_err-rows-clause-other g c = failed_not_damaged c.in_err-rows.field-0.0 c.from_residual.result c.from_residual.ensures.1
@@ -38,13 +38,13 @@ returns-in_err-rows-clause-other g c = failed_not_damaged c.in_err-rows.field-0.
 pub returns-in_err-rows-clause-there : goal.returns-in_err-rows-clause-there
 returns-in_err-rows-clause-there g c = there_by _ c.from_residual.result c.from_residual.ensures.1
 
-pub returns-clause-failed : goal.returns-clause-failed
-returns-clause-failed g c inside clean was = never_store _ c.check_office.result c.check_office.ensures.read
+pub returns-clause-medium : goal.returns-clause-medium
+returns-clause-medium g c inside clean was = never_store _ c.check_office.result c.check_office.ensures.read
 
-pub returns-in_err-rows-clause-failed : goal.returns-in_err-rows-clause-failed
-returns-in_err-rows-clause-failed g c inside clean was =
+pub returns-in_err-rows-clause-medium : goal.returns-in_err-rows-clause-medium
+returns-in_err-rows-clause-medium g c inside clean was =
     let old = state g.S.Store c.args.tx.now.conn.now in
     let new = state g.S.Store c.all_rows.new.tx.conn.now in
     let f = c.in_err-rows.field-0.0 in
     failed_by (MayFail old new) (open_fault_by (reading_fault_by f)) c.from_residual.result c.from_residual.ensures.1
-    (λ told. by_row old new f (c.in_err-rows.ensures.medium clean was) (opened_store (reading_fault_by f) told))
+    (λ err. by_row old new f (c.in_err-rows.ensures.medium clean was) (opened_store (reading_fault_by f) err))

@@ -14,8 +14,8 @@ returns-clause-kept g c clean left =
     (λ opened audited live. kept_left t.office (state g.S.Store t.conn) (state g.T.Store c.args.found) t.rests clean (λ db is_open may. g.met.S.Store.settled t.conn.store db is_open may) c.schema-kept.ensures.live c.schema-found.ensures.live left (state g.T.Store opened.conn) live audited)
     (rw c.office.ensures at c.open.ensures.audited)
 
-pub returns-clause-told : goal.returns-clause-told
-returns-clause-told g c clean left =
+pub returns-clause-err : goal.returns-clause-err
+returns-clause-err g c clean left =
     let t = c.args.tables.now in
     err_so c.open.result
     (λ e opens now. outside_left t.office (state g.S.Store t.conn) (state g.T.Store c.args.found) t.rests clean (λ db is_open may. g.met.S.Store.settled t.conn.store db is_open may) c.schema-kept.ensures.live c.schema-found.ensures.live left (state g.T.Store e.1) e.0 now opens)

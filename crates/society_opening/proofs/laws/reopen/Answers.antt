@@ -9,8 +9,8 @@ returns-clause-kept g c clean =
     (λ t audited live. kept_again c.args.tables.office (state g.S.Store c.into_connection.result) (c.into_connection.ensures.rests clean) (c.into_connection.ensures.live clean).1 (state g.S.Store t.conn) live audited ∙ sym c.into_connection.ensures.book)
     (rw c.office.ensures at c.open.ensures.audited)
 
-pub returns-clause-told : goal.returns-clause-told
-returns-clause-told g c clean =
+pub returns-clause-err : goal.returns-clause-err
+returns-clause-err g c clean =
     err_so c.open.result
     (λ e opens now. outside_again c.args.tables.office (state g.S.Store c.into_connection.result) (c.into_connection.ensures.rests clean) (c.into_connection.ensures.live clean).1 (state g.S.Store e.1) e.0 now opens)
     (rw c.office.ensures at c.open.ensures.opens)

@@ -32,7 +32,7 @@ pub tries_by : {S : Type 0} (g : Ghosts S) (Was : Database → Type 0) (number :
     → DoesOver Was (state g (record old { in_transaction = true })) mid r Says → TellsIn Was number o (state g (record old { in_transaction = true })) mid r
     → DeniesIn Was Holds (state g (record old { in_transaction = true })) mid r → FailsIn Was (state g (record old { in_transaction = true })) mid r → (HasCleanDisk new → IsRolledBack mid new) → Survives mid new (λ _. ⊥)
     → Tries Was number o Holds (state g old) new r
-tries_by g Was number o Holds Says old mid new r gives settled does told damaged failed rolled survives = record {
+tries_by g Was number o Holds Says old mid new r gives settled does err damaged medium rolled survives = record {
   settled = settled;
   sound = λ clean was. sound_by r (does.says (early clean) refl was);
   was_open = λ clean opened. (does.kept (early clean) refl).was_open ((rolled clean).was_open opened);
@@ -40,9 +40,9 @@ tries_by g Was number o Holds Says old mid new r gives settled does told damaged
       let back = (rolled clean).undone opened in
       let same = (does.kept (early clean) refl).committed ((rolled clean).was_open opened) in
       (back.0 ∙ same, back.1 ∙ same);
-  told = λ clean was. told (early clean) refl was;
+  err = λ clean was. err (early clean) refl was;
   damaged = λ clean was. damaged (early clean) refl was;
-  failed = λ clean was. failed_later r (failed refl (early clean) was);
+  medium = λ clean was. failed_later r (medium refl (early clean) was);
   survives = survives_begin g old new (λ _. ⊥) (survives_then begun mid new (λ _. ⊥) (λ _. ⊥) (λ _. ⊥) (λ _ db none. none) (λ _ db none. none) does.survives survives);
 }
   where
@@ -54,7 +54,7 @@ tries_by g Was number o Holds Says old mid new r gives settled does told damaged
 
     failed_later : (z : Result (Unit {0}) OpenFault) → IfErr z (λ e. e ≡ Store → MayFail begun mid) → IfErr z (λ e. e ≡ Store → MayFail (state g old) new)
     failed_later (Ok x) may = tt
-    failed_later (Err e) may = λ told. may_later (state g old) mid new survives.counts (may told)
+    failed_later (Err e) may = λ err. may_later (state g old) mid new survives.counts (may err)
 
     sound_by : (z : Result (Unit {0}) OpenFault) → IfOk z (Says begun.now mid.now) → OnOk z ∥ Holds begun.now.trees ∥₁
     sound_by (Ok x) said = gives begun.now mid.now said
@@ -70,9 +70,9 @@ module _ (o : Office) (old new : State) (r : Result (Unit {0}) OpenFault) where
   audits_newest has tries = record {
     sound = λ clean opened. sound_by r (tries.settled opened) (tries.sound clean has);
     shown = tries.shown;
-    told = λ clean opened. told_by r (tries.settled opened) (tries.told clean has) (tries.damaged clean has);
+    err = λ clean opened. told_by r (tries.settled opened) (tries.err clean has) (tries.damaged clean has);
     empty = λ opened bare. absurd (not_both old.now (subst IsBare (sym (tries.settled opened)) bare) has);
-    failed = λ clean opened. tries.failed clean has;
+    medium = λ clean opened. tries.medium clean has;
     survives = tries.survives;
   }
     where
@@ -89,9 +89,9 @@ module _ (o : Office) (old new : State) (r : Result (Unit {0}) OpenFault) where
   audits_older layout was tries = record {
     sound = λ clean opened. sound_by r (tries.settled opened) (tries.sound clean was);
     shown = tries.shown;
-    told = λ clean opened. told_by r (tries.settled opened) (tries.told clean was) (tries.damaged clean was);
+    err = λ clean opened. told_by r (tries.settled opened) (tries.err clean was) (tries.damaged clean was);
     empty = λ opened bare. absurd (not_older layout old.now (subst IsBare (sym (tries.settled opened)) bare) was);
-    failed = λ clean opened. tries.failed clean was;
+    medium = λ clean opened. tries.medium clean was;
     survives = tries.survives;
   }
     where

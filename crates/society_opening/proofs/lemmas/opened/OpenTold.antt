@@ -78,13 +78,13 @@ one_likewise n (r ∷ s ∷ rows) two same one = absurd one
 
 -- what is said of the rows is said of them in any order
 pub told_likewise : (n : ℕ) (o : Office) (one two : List Row) (e : OpenFault) → IsPermutation one two → TellsOffice n o two e → TellsOffice n o one e
-told_likewise n o one two fault.Memory same told = tt
-told_likewise n o one two fault.Store same told = tt
-told_likewise n o one two fault.Empty same told = absurd told
-told_likewise n o one two fault.Schema same told = λ is. told (one_likewise n one two same is)
-told_likewise n o one two fault.OtherOffice same told =
-    (one_likewise n two one (IsPermutation-sym one two same) told.0, λ is. told.1 (one_else (office_row_under n o) two (subst (λ rows. IsPermutation rows two) is same)))
-told_likewise n o one two fault.Damaged same told = one_else (office_row_under n o) one (subst (λ rows. IsPermutation rows one) told (IsPermutation-sym one two same))
+told_likewise n o one two fault.Memory same err = tt
+told_likewise n o one two fault.Store same err = tt
+told_likewise n o one two fault.Empty same err = absurd err
+told_likewise n o one two fault.Schema same err = λ is. err (one_likewise n one two same is)
+told_likewise n o one two fault.OtherOffice same err =
+    (one_likewise n two one (IsPermutation-sym one two same) err.0, λ is. err.1 (one_else (office_row_under n o) two (subst (λ rows. IsPermutation rows two) is same)))
+told_likewise n o one two fault.Damaged same err = one_else (office_row_under n o) one (subst (λ rows. IsPermutation rows one) err (IsPermutation-sym one two same))
 
 any_order : (db : Trees) (rows : List Row) (width : ℕ) → Lists layout.office (λ _. true) width db rows → IsPermutation (rows_in layout.office db) rows
 any_order db rows width lists = subst (λ l. IsPermutation l rows) (all_pass (rows_in layout.office db)) lists.rows
@@ -96,8 +96,8 @@ here_listed n o db rows width (Ok x) lists is = told_likewise n o (rows_in layou
 here_listed n o db rows width (Err e) lists is = tt
 
 pub told_listed : (n : ℕ) (o : Office) (db : Trees) (rows : List Row) (width : ℕ) (r : Result (Unit {0}) OpenFault) → Lists layout.office (λ _. true) width db rows → IfErr r (TellsOffice n o rows) → IfErr r (TellsOffice n o (rows_in layout.office db))
-told_listed n o db rows width (Ok x) lists told = tt
-told_listed n o db rows width (Err e) lists told = told_likewise n o (rows_in layout.office db) rows e (any_order db rows width lists) told
+told_listed n o db rows width (Ok x) lists err = tt
+told_listed n o db rows width (Err e) lists err = told_likewise n o (rows_in layout.office db) rows e (any_order db rows width lists) err
 
 -- what is said of the office when a statement fails, and when rows do not pass
 pub told_failed : (n : ℕ) (o : Office) (rows : List Row) (f : RowFault) (r : Result (Unit {0}) OpenFault) → IsErrAnd r (λ e. e ≡ open_fault_by (reading_fault_by f)) → IfErr r (TellsOffice n o rows)
@@ -110,8 +110,8 @@ told_judged n o rows f (Err e) is h = subst (TellsOffice n o rows) (sym h) (audi
 
 -- what a fault says is said where it is passed on
 pub told_on : (n : ℕ) (o : Office) (rows : List Row) (f : OpenFault) (r : Result (Unit {0}) OpenFault) → TellsOffice n o rows f → IsErrAnd r (λ e. e ≡ f) → IfErr r (TellsOffice n o rows)
-told_on n o rows f (Ok x) told h = tt
-told_on n o rows f (Err e) told h = subst (TellsOffice n o rows) (sym h) told
+told_on n o rows f (Ok x) err h = tt
+told_on n o rows f (Err e) err h = subst (TellsOffice n o rows) (sym h) err
 
 -- a database is not both bare and of the layout
 pub not_both : (db : Database) → IsBare db → HasLayout db → ⊥
@@ -143,25 +143,25 @@ older_once older.Second older.First db was also = absurd (omega (first_long 12 (
 
 -- what is said of the office is said of a database of layout 3
 pub told_of_layout : (o : Office) (db : Database) (e : OpenFault) → HasLayout db → TellsOfficeIn 3 o db e → (e ≡ fault.Damaged → ¬ HoldsOwnBook o db.trees) → TellsDatabase o db e
-told_of_layout o db fault.Memory has told damaged = tt
-told_of_layout o db fault.Store has told damaged = tt
-told_of_layout o db fault.Empty has told damaged = absurd told
-told_of_layout o db fault.Schema has told damaged = (λ bare. not_both db bare has, λ _. told, λ layout was. absurd (older_apart layout db was has))
-told_of_layout o db fault.OtherOffice has told damaged = inl (has, told)
-told_of_layout o db fault.Damaged has told damaged = inl (has, told, damaged refl)
+told_of_layout o db fault.Memory has err damaged = tt
+told_of_layout o db fault.Store has err damaged = tt
+told_of_layout o db fault.Empty has err damaged = absurd err
+told_of_layout o db fault.Schema has err damaged = (λ bare. not_both db bare has, λ _. err, λ layout was. absurd (older_apart layout db was has))
+told_of_layout o db fault.OtherOffice has err damaged = inl (has, err)
+told_of_layout o db fault.Damaged has err damaged = inl (has, err, damaged refl)
 
 -- and of one of an older layout
 pub told_of_older : (o : Office) (layout : OlderLayout) (db : Database) (e : OpenFault) → HasOlder layout db → TellsOfficeIn (number_of layout) o db e → (e ≡ fault.Damaged → ¬ HoldsOlder o layout db.trees) → TellsDatabase o db e
-told_of_older o layout db fault.Memory was told damaged = tt
-told_of_older o layout db fault.Store was told damaged = tt
-told_of_older o layout db fault.Empty was told damaged = absurd told
-told_of_older o layout db fault.Schema was told damaged = (
+told_of_older o layout db fault.Memory was err damaged = tt
+told_of_older o layout db fault.Store was err damaged = tt
+told_of_older o layout db fault.Empty was err damaged = absurd err
+told_of_older o layout db fault.Schema was err damaged = (
   λ bare. not_older layout db bare was,
   λ has. absurd (older_apart layout db was has),
-  λ other also. subst (λ (l : OlderLayout). TellsOfficeIn (number_of l) o db fault.Schema) (older_once layout other db was also) told,
+  λ other also. subst (λ (l : OlderLayout). TellsOfficeIn (number_of l) o db fault.Schema) (older_once layout other db was also) err,
 )
-told_of_older o layout db fault.OtherOffice was told damaged = inr (layout, was, told)
-told_of_older o layout db fault.Damaged was told damaged = inr (layout, (was, told, damaged refl))
+told_of_older o layout db fault.OtherOffice was err damaged = inr (layout, was, err)
+told_of_older o layout db fault.Damaged was err damaged = inr (layout, (was, err, damaged refl))
 
 nothing_alone : (x y : ⊥) → x ≡ y
 nothing_alone x y = absurd x
@@ -183,30 +183,30 @@ own_office n o =
 
 -- of a database that holds a book of the office no fault is told but that memory was refused or the database failed
 pub opened_else : (o : Office) (db : Database) (e : OpenFault) → HasLayout db → HoldsOne o db.trees → TellsDatabase o db e → IsOutside e
-opened_else o db fault.Memory has holds told = tt
-opened_else o db fault.Store has holds told = tt
-opened_else o db fault.Empty has holds told = absurd (not_both db told has)
-opened_else o db fault.Schema has holds told = refuted o db holds (λ h. told.1 has (subst (IsOneOffice 3) (sym h.registered) (own_office 3 o)))
-opened_else o db fault.OtherOffice has holds told = elim told [
+opened_else o db fault.Memory has holds err = tt
+opened_else o db fault.Store has holds err = tt
+opened_else o db fault.Empty has holds err = absurd (not_both db err has)
+opened_else o db fault.Schema has holds err = refuted o db holds (λ h. err.1 has (subst (IsOneOffice 3) (sym h.registered) (own_office 3 o)))
+opened_else o db fault.OtherOffice has holds err = elim err [
   | inl newest ↦ refuted o db holds (λ h. newest.1.1 h.registered)
   | inr older ↦ absurd (older_apart older.0 db older.1 has)
 ]
-opened_else o db fault.Damaged has holds told = elim told [
+opened_else o db fault.Damaged has holds err = elim err [
   | inl newest ↦ refuted o db holds newest.2
   | inr older ↦ absurd (older_apart older.0 db older.1.0 has)
 ]
 
 -- so of one of an older layout that stands for tables that do
 pub opened_older : (o : Office) (layout : OlderLayout) (db : Database) (e : OpenFault) → HasOlder layout db → HoldsOlder o layout db.trees → TellsDatabase o db e → IsOutside e
-opened_older o layout db fault.Memory was held told = tt
-opened_older o layout db fault.Store was held told = tt
-opened_older o layout db fault.Empty was held told = absurd (not_older layout db told was)
-opened_older o layout db fault.Schema was held told = absurd (told.2 layout was (subst (IsOneOffice (number_of layout)) (sym held.registered) (own_office (number_of layout) o)))
-opened_older o layout db fault.OtherOffice was held told = elim told [
+opened_older o layout db fault.Memory was held err = tt
+opened_older o layout db fault.Store was held err = tt
+opened_older o layout db fault.Empty was held err = absurd (not_older layout db err was)
+opened_older o layout db fault.Schema was held err = absurd (err.2 layout was (subst (IsOneOffice (number_of layout)) (sym held.registered) (own_office (number_of layout) o)))
+opened_older o layout db fault.OtherOffice was held err = elim err [
   | inl newest ↦ absurd (older_apart layout db was newest.0)
   | inr other ↦ absurd ((subst (λ (l : OlderLayout). TellsOfficeIn (number_of l) o db fault.OtherOffice) (older_once other.0 layout db other.1 was) other.2).1 held.registered)
 ]
-opened_older o layout db fault.Damaged was held told = elim told [
+opened_older o layout db fault.Damaged was held err = elim err [
   | inl newest ↦ absurd (older_apart layout db was newest.0)
   | inr other ↦ absurd ((subst (λ (l : OlderLayout). IsDamagedOlder o l db) (older_once other.0 layout db other.1.0 was) other.1).2 held)
 ]

@@ -48,15 +48,15 @@ module _ (o : Office) (old new : State) (r : Result (Unit {0}) OpenFault) (settl
   -- a database that had no table
   pub opens_begun : IsBare old.now → (HasCleanDisk new → OnOk r (Begins (office_row o) new.now × (new.now ≡ new.committed))) → (HasCleanDisk new → OnErr r (ShowsAs old.committed new)) → IfErr r IsOutside
       → (HasCleanDisk new → IfErr r (λ e. e ≡ Store → MayFail old new)) → Survives old new (IsNewBook (office_row o)) → Opens o old new r
-  opens_begun bare created neither outside failed crash = record {
+  opens_begun bare created neither outside medium crash = record {
     rests = rests_by r created;
     begun = λ clean is_open was. book_by r (created clean);
     audited = λ clean is_open has. absurd (not_both old.now bare (subst HasLayout (sym (settled is_open)) has));
     taken = λ clean is_open layout was. absurd (not_older layout old.now bare (subst (HasOlder layout) (sym (settled is_open)) was));
     known = λ clean is_open. on_ok r (inl (subst IsBare (settled is_open) bare));
     unchanged = neither;
-    told = λ clean is_open. told_by r outside;
-    failed = λ clean is_open. failed clean;
+    err = λ clean is_open. told_by r outside;
+    medium = λ clean is_open. medium clean;
     crash = record {
       clean = crash.clean;
       shield = crash.shield;
@@ -72,8 +72,8 @@ module _ (o : Office) (old new : State) (r : Result (Unit {0}) OpenFault) (settl
       rests_by (Err e) made = tt
 
       told_by : (z : Result (Unit {0}) OpenFault) → IfErr z IsOutside → IfErr z (TellsDatabase o old.committed)
-      told_by (Ok x) failed = tt
-      told_by (Err e) failed = outside_told o old.committed e failed
+      told_by (Ok x) medium = tt
+      told_by (Err e) medium = outside_told o old.committed e medium
 
       book_by : (z : Result (Unit {0}) OpenFault) → OnOk z (Begins (office_row o) new.now × (new.now ≡ new.committed)) → OnOk z (book_of new.now.trees ≡ empty_book)
       book_by (Ok x) made = begun_book o (office_row o) new.now refl made.0
@@ -88,8 +88,8 @@ module _ (o : Office) (old new : State) (r : Result (Unit {0}) OpenFault) (settl
     taken = λ clean is_open layout was. absurd (older_apart layout old.now (subst (HasOlder layout) (sym (settled is_open)) was) has);
     known = λ clean is_open. on_ok r (inr (inl (subst HasLayout (settled is_open) has)));
     unchanged = λ clean. on_err r (tries.shown clean);
-    told = λ clean is_open. told_by r (settled is_open) (tries.told clean has) (tries.damaged clean has);
-    failed = λ clean is_open. tries.failed clean has;
+    err = λ clean is_open. told_by r (settled is_open) (tries.err clean has) (tries.damaged clean has);
+    medium = λ clean is_open. tries.medium clean has;
     crash = record {
       clean = tries.survives.clean;
       shield = tries.survives.shield;
@@ -130,15 +130,15 @@ module _ (o : Office) (old new : State) (r : Result (Unit {0}) OpenFault) (settl
 
 -- one of an older layout that is taken over, or is not
 pub opens_taken : (o : Office) (layout : OlderLayout) (old new : State) (r : Result (Unit {0}) OpenFault) → HasOlder layout old.now → TakesOver o layout old new r → FailsTaking (HasOlder layout) old new r → Opens o old new r
-opens_taken o layout old new r was takes failed = record {
+opens_taken o layout old new r was takes medium = record {
   rests = rests_by r (λ clean. takes.taken clean was);
   begun = λ clean is_open bare. absurd (not_older layout old.now (subst IsBare (sym (takes.settled is_open)) bare) was);
   audited = λ clean is_open has. absurd (older_apart layout old.now was (subst HasLayout (sym (takes.settled is_open)) has));
   taken = λ clean is_open other also. taken_by r clean is_open other (subst (HasOlder other) (sym (takes.settled is_open)) also) (takes.taken clean was);
   known = λ clean is_open. on_ok r (inr (inr (layout, subst (HasOlder layout) (takes.settled is_open) was)));
   unchanged = takes.neither;
-  told = λ clean is_open. told_by r (takes.settled is_open) (takes.told clean was) (takes.damaged clean was);
-  failed = λ clean is_open. failed clean was;
+  err = λ clean is_open. told_by r (takes.settled is_open) (takes.err clean was) (takes.damaged clean was);
+  medium = λ clean is_open. medium clean was;
   crash = record {
     clean = takes.survives.clean;
     shield = takes.survives.shield;
@@ -178,16 +178,16 @@ pub no_failure : Schema ≢ Store
 no_failure is = cc
 
 -- one that has something else
-pub opens_other : (o : Office) (s : State) (told : OpenFault) → told ≢ Store → (IsTrue s.is_open → s.now ≡ s.committed) → TellsDatabase o s.now told → Opens o s s (Err told)
-opens_other o s told other settled says = record {
+pub opens_other : (o : Office) (s : State) (err : OpenFault) → err ≢ Store → (IsTrue s.is_open → s.now ≡ s.committed) → TellsDatabase o s.now err → Opens o s s (Err err)
+opens_other o s err other settled says = record {
   rests = tt;
   begun = λ clean is_open bare. tt;
   audited = λ clean is_open has. tt;
   taken = λ clean is_open layout was. tt;
   known = λ clean is_open. tt;
   unchanged = λ clean is_open. (settled is_open, refl);
-  told = λ clean is_open. subst (λ (db : Database). TellsDatabase o db told) (settled is_open) says;
-  failed = λ clean is_open is. absurd (other is);
+  err = λ clean is_open. subst (λ (db : Database). TellsDatabase o db err) (settled is_open) says;
+  medium = λ clean is_open is. absurd (other is);
   crash = record { clean = omega arith; shield = λ h. h; counts = omega arith; limit = refl; closes = λ clean is. inl is; crash = λ clean db h. inl h };
 }
 

@@ -33,7 +33,7 @@ faults_on Wrong Later old mid new (Err e) first clean up also says = says_on Wro
 
 -- a failed write is told as the store's where the medium may have failed
 pub told_writing : {May : Type 0} (f : RowFault) → (is_of_medium f ≡ true → May) → writing_fault_by f ≡ audit.Store → May
-told_writing {May} f blamed told = by_case (is_of_medium f) refl told
+told_writing {May} f blamed err = by_case (is_of_medium f) refl err
   where
     by_case : (t : Bool) → is_of_medium f ≡ t → cond t audit.Store audit.Memory ≡ audit.Store → May
     by_case true medium is = blamed medium
@@ -55,14 +55,14 @@ aside_by Held old new audit.Damaged says held = says held
 
 -- a fault of an audit is told as the store's where the medium may have failed
 pub store_of : (Wrong : Trees → Type 0) (old new : State) (f : AuditFault) → AuditFaultSays Wrong old new f → open_fault_by f ≡ fault.Store → MayFail old new
-store_of Wrong old new f says told = subst (AuditFaultSays Wrong old new) (opened_store f told) says
+store_of Wrong old new f says err = subst (AuditFaultSays Wrong old new) (opened_store f err) says
 
 -- a fault that is handed on is told as the store's where it was
 pub failed_by : (May : Type 0) (f : OpenFault) (r : Result (Unit {0}) OpenFault) → IsErrAnd r (λ e. e ≡ f) → (f ≡ fault.Store → May) → IfErr r (λ e. e ≡ fault.Store → May)
 failed_by May f (Ok x) is may = tt
-failed_by May f (Err e) is may = λ told. may (sym is ∙ told)
+failed_by May f (Err e) is may = λ err. may (sym is ∙ err)
 
 -- what is never told is told with anything
 pub never_store : (May : Type 0) (r : Result (Unit {0}) OpenFault) → IfErr r (λ e. e ≢ fault.Store) → IfErr r (λ e. e ≡ fault.Store → May)
 never_store May (Ok x) never = tt
-never_store May (Err e) never = λ told. absurd (never told)
+never_store May (Err e) never = λ err. absurd (never err)

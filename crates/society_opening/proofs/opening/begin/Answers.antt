@@ -11,9 +11,9 @@ returns-in-Err-clause-crash g c = rw (c.from.ensures, c.from-2.ensures, c.name.e
 pub returns-in-Ok-clause-crash : goal.returns-in-Ok-clause-crash
 returns-in-Ok-clause-crash g c = rw (c.from.ensures, c.from-2.ensures, c.name.ensures) at c.in-Ok.ensures.crash
 
-pub returns-in-Err-clause-told : goal.returns-in-Err-clause-told
-returns-in-Err-clause-told g c = subst IsOutside (sym (c.from-in-Err.ensures ∙ ap open_fault_by c.fault_of_writing.ensures.told)) (outside_writing c.in-Err.fault)
+pub returns-in-Err-clause-err : goal.returns-in-Err-clause-err
+returns-in-Err-clause-err g c = subst IsOutside (sym (c.from-in-Err.ensures ∙ ap open_fault_by c.fault_of_writing.ensures.value)) (outside_writing c.in-Err.fault)
 
-pub returns-in-Err-clause-failed : goal.returns-in-Err-clause-failed
-returns-in-Err-clause-failed g c clean told =
-    told_writing c.in-Err.fault (c.in-Err.ensures.blamed clean) (opened_store (writing_fault_by c.in-Err.fault) (sym (c.from-in-Err.ensures ∙ ap open_fault_by c.fault_of_writing.ensures.told) ∙ told))
+pub returns-in-Err-clause-medium : goal.returns-in-Err-clause-medium
+returns-in-Err-clause-medium g c clean err =
+    told_writing c.in-Err.fault (c.in-Err.ensures.blamed clean) (opened_store (writing_fault_by c.in-Err.fault) (sym (c.from-in-Err.ensures ∙ ap open_fault_by c.fault_of_writing.ensures.value) ∙ err))

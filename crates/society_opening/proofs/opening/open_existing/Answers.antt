@@ -9,8 +9,8 @@ use Rattle.society_opening.proofs.lemmas.opened.OpenTold.{not_both, not_older}
 use Rattle.society_opening.proofs.lemmas.opened.OpenedLemmas.{audited_there, err_empty, survived_there, survives_same}
 use Rattle.society_opening.proofs.opening.open_existing.Goals as goal
 
-pub returns-then-is_bare-clause-told : goal.returns-then-is_bare-clause-told
-returns-then-is_bare-clause-told g c clean is_open =
+pub returns-then-is_bare-clause-err : goal.returns-then-is_bare-clause-err
+returns-then-is_bare-clause-err g c clean is_open =
     subst IsBare (c.see_last_commit.ensures.settled is_open) (c.is_bare.ensures.0 c.if-is_bare.true)
 
 pub returns-then-is_bare-clause-opens : goal.returns-then-is_bare-clause-opens
@@ -46,14 +46,14 @@ returns-clause-crash g c =
     survived_there c.args.office.now (state g.S.Store c.args.connection) c.open.result (λ t. state g.S.Store t.conn) (λ e. state g.S.Store e.1)
     (λ bare. false≢true (sym c.if-is_bare.false ∙ c.is_bare.ensures.1 bare)) (rw c.into_connection-2.ensures.same at c.open.ensures.crash)
 
-pub returns-clause-told : goal.returns-clause-told
-returns-clause-told g c = rw c.into_connection-2.ensures.same at c.open.ensures.told
+pub returns-clause-err : goal.returns-clause-err
+returns-clause-err g c = rw c.into_connection-2.ensures.same at c.open.ensures.err
 
 pub returns-clause-opens : goal.returns-clause-opens
 returns-clause-opens g c = rw c.into_connection-2.ensures.same at c.open.ensures.opens
 
-pub returns-clause-failed : goal.returns-clause-failed
-returns-clause-failed g c = rw c.into_connection-2.ensures.same at c.open.ensures.failed
+pub returns-clause-medium : goal.returns-clause-medium
+returns-clause-medium g c = rw c.into_connection-2.ensures.same at c.open.ensures.medium
 
 pub returns-clause-unchanged : goal.returns-clause-unchanged
 returns-clause-unchanged g c = rw c.into_connection-2.ensures.same at c.open.ensures.unchanged

@@ -6,7 +6,7 @@ use Rattle.society_opening.proofs.opening.prepare.Goals as goal
 pub returns-in-Nothing-clause-opens : goal.returns-in-Nothing-clause-opens
 returns-in-Nothing-clause-opens g c =
     opens_begun c.args.office.now _ _ c.begin.result c.in-Nothing.ensures.settled
-    c.in-Nothing.ensures.found c.begin.ensures.created c.begin.ensures.neither c.begin.ensures.told c.begin.ensures.failed c.begin.ensures.crash
+    c.in-Nothing.ensures.found c.begin.ensures.created c.begin.ensures.neither c.begin.ensures.err c.begin.ensures.medium c.begin.ensures.crash
 
 pub returns-in-Layout-clause-opens : goal.returns-in-Layout-clause-opens
 returns-in-Layout-clause-opens g c =
@@ -14,7 +14,7 @@ returns-in-Layout-clause-opens g c =
 
 pub returns-in-Older-clause-opens : goal.returns-in-Older-clause-opens
 returns-in-Older-clause-opens g c =
-    opens_taken c.args.office.now c.in-Older.layout _ _ c.take_over.result c.in-Older.ensures.found c.take_over.ensures.takes c.take_over.ensures.failed
+    opens_taken c.args.office.now c.in-Older.layout _ _ c.take_over.result c.in-Older.ensures.found c.take_over.ensures.takes c.take_over.ensures.medium
 
 pub returns-in-Other-clause-opens : goal.returns-in-Other-clause-opens
 returns-in-Other-clause-opens g c =

@@ -41,4 +41,4 @@ returns-in-Ok-clause-faults g c clean inside was =
 
 pub returns-in-Err-clause-faults : goal.returns-in-Err-clause-faults
 returns-in-Err-clause-faults g c clean inside was =
-    says_writing (StandsForNone c.args.office.now c.args.layout) (state g.S.Store c.args.tx.now.conn.now) (state g.S.Store c.raise_inside.new.tx.conn.now) c.in-Err.fault c.fault_of_writing.result (c.in-Err.ensures.blamed clean inside was) c.fault_of_writing.ensures.told
+    says_writing (StandsForNone c.args.office.now c.args.layout) (state g.S.Store c.args.tx.now.conn.now) (state g.S.Store c.raise_inside.new.tx.conn.now) c.in-Err.fault c.fault_of_writing.result (c.in-Err.ensures.blamed clean inside was) c.fault_of_writing.ensures.value

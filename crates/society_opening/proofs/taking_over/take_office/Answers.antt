@@ -34,12 +34,12 @@ returns-in_err-take_inside-clause-does g c =
     over_fails (HasOlder l) (HasOlder l) _ _ _ tt _ c.from_residual-in_err-take_inside.result _ _ _ (agreed l (state g.S.Store c.args.tx.now.conn.now) (state g.S.Store c.office_agrees.new.tx.conn.now) (Ok tt) c.args.office.now (rw c.number.ensures at c.in_ok-office_agrees.ensures.finds)) (λ has said. subst (HasOlder l) (sym said.0) has)
     c.in_err-take_inside.ensures.does c.from_residual-in_err-take_inside.ensures.0
 
-pub returns-in_err-office_agrees-clause-told : goal.returns-in_err-office_agrees-clause-told
-returns-in_err-office_agrees-clause-told g c clean inside was =
-    told_on (number_of c.args.layout) c.args.office.now _ c.in_err-office_agrees.field-0.0 c.from_residual.result ((rw c.number.ensures at c.in_err-office_agrees.ensures.told) clean inside (has_office c.args.layout _ was)) c.from_residual.ensures.1
+pub returns-in_err-office_agrees-clause-err : goal.returns-in_err-office_agrees-clause-err
+returns-in_err-office_agrees-clause-err g c clean inside was =
+    told_on (number_of c.args.layout) c.args.office.now _ c.in_err-office_agrees.field-0.0 c.from_residual.result ((rw c.number.ensures at c.in_err-office_agrees.ensures.err) clean inside (has_office c.args.layout _ was)) c.from_residual.ensures.1
 
-pub returns-in_err-take_inside-clause-told : goal.returns-in_err-take_inside-clause-told
-returns-in_err-take_inside-clause-told g c clean inside was =
+pub returns-in_err-take_inside-clause-err : goal.returns-in_err-take_inside-clause-err
+returns-in_err-take_inside-clause-err g c clean inside was =
     let mid = clean_before _ _ c.in_err-take_inside.ensures.does.survives clean in
     told_judged (number_of c.args.layout) c.args.office.now _ c.in_err-take_inside.field-0.0 c.from_residual-in_err-take_inside.result ((rw c.number.ensures at c.in_ok-office_agrees.ensures.finds).says mid inside (has_office c.args.layout _ was)).1 c.from_residual-in_err-take_inside.ensures.1
 
@@ -55,12 +55,12 @@ returns-in_err-take_inside-clause-damaged g c clean inside was =
     damaged_so _ c.in_err-take_inside.field-0.0 c.from_residual-in_err-take_inside.result c.from_residual-in_err-take_inside.ensures.1
     (λ held. aside_by (HoldsOlder c.args.office.now l) (state g.S.Store c.office_agrees.new.tx.conn.now) (state g.S.Store c.take_inside.new.tx.conn.now) c.in_err-take_inside.field-0.0 says (subst (λ (db : Database). HoldsOlder c.args.office.now l db.trees) (sym said.0) held))
 
-pub returns-in_err-office_agrees-clause-failed : goal.returns-in_err-office_agrees-clause-failed
-returns-in_err-office_agrees-clause-failed g c inside clean was =
-    failed_by (MayFail (state g.S.Store c.args.tx.now.conn.now) (state g.S.Store c.office_agrees.new.tx.conn.now)) c.in_err-office_agrees.field-0.0 c.from_residual.result c.from_residual.ensures.1 (c.in_err-office_agrees.ensures.failed inside clean (has_office c.args.layout _ was))
+pub returns-in_err-office_agrees-clause-medium : goal.returns-in_err-office_agrees-clause-medium
+returns-in_err-office_agrees-clause-medium g c inside clean was =
+    failed_by (MayFail (state g.S.Store c.args.tx.now.conn.now) (state g.S.Store c.office_agrees.new.tx.conn.now)) c.in_err-office_agrees.field-0.0 c.from_residual.result c.from_residual.ensures.1 (c.in_err-office_agrees.ensures.medium inside clean (has_office c.args.layout _ was))
 
-pub returns-in_err-take_inside-clause-failed : goal.returns-in_err-take_inside-clause-failed
-returns-in_err-take_inside-clause-failed g c inside clean was =
+pub returns-in_err-take_inside-clause-medium : goal.returns-in_err-take_inside-clause-medium
+returns-in_err-take_inside-clause-medium g c inside clean was =
     let l = c.args.layout in
     let old = state g.S.Store c.args.tx.now.conn.now in
     let mid = state g.S.Store c.office_agrees.new.tx.conn.now in
@@ -71,7 +71,7 @@ returns-in_err-take_inside-clause-failed g c inside clean was =
     let said = finds.says before inside (has_office l _ was) in
     let says = c.in_err-take_inside.ensures.faults clean (finds.inside before inside) (subst (HasOlder l) (sym said.0) was) in
     failed_by (MayFail old new) (open_fault_by f) c.from_residual-in_err-take_inside.result c.from_residual-in_err-take_inside.ensures.1
-    (λ told. may_on old mid new finds.survives before c.in_err-take_inside.ensures.does.survives.counts (store_of (StandsForNone c.args.office.now l) mid new f says told))
+    (λ err. may_on old mid new finds.survives before c.in_err-take_inside.ensures.does.survives.counts (store_of (StandsForNone c.args.office.now l) mid new f says err))
 
 pub returns-in_err-take_inside-clause-there : goal.returns-in_err-take_inside-clause-there
 returns-in_err-take_inside-clause-there g c = there_by c.in_err-take_inside.field-0.0 c.from_residual-in_err-take_inside.result c.from_residual-in_err-take_inside.ensures.1

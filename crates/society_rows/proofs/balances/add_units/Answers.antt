@@ -19,4 +19,4 @@ returns-clause-cause g c = λ clean has.
     let old = state g.S.Store c.args.tx.now.conn.now in
     let early : HasCleanDisk (state g.S.Store c.units_of.new.tx.conn.now) = omega (arith, c.put_balance.ensures.written.survives.clean) in
     let still = (c.in_ok-before.ensures.read.same early has).0.now_is in
-    told_refuses c.args.account.now c.args.units old.now.trees c.put_balance.result (c.put_balance.ensures.told clean (subst HasLayout (sym still) has))
+    told_refuses c.args.account.now c.args.units old.now.trees c.put_balance.result (c.put_balance.ensures.err clean (subst HasLayout (sym still) has))

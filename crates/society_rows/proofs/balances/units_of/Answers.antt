@@ -23,14 +23,14 @@ returns-in-len1-clause-read g c =
 
 pub returns-in_err-rows-clause-cause : goal.returns-in_err-rows-clause-cause
 returns-in_err-rows-clause-cause g c = λ clean has.
-    handed_on c.in_err-rows.field-0.0 c.from_residual.result (HidesUnits c.args.account.now (state g.S.Store c.args.tx.now.conn.now).now.trees) c.from_residual.ensures.1 (inl (c.in_err-rows.ensures.told clean has))
+    handed_on c.in_err-rows.field-0.0 c.from_residual.result (HidesUnits c.args.account.now (state g.S.Store c.args.tx.now.conn.now).now.trees) c.from_residual.ensures.1 (inl (c.in_err-rows.ensures.err clean has))
 
 pub returns-in_err-from_row-in-len1-clause-cause : goal.returns-in_err-from_row-in-len1-clause-cause
 returns-in_err-from_row-in-len1-clause-cause g c = λ clean has.
     let db = (state g.S.Store c.args.tx.now.conn.now).now.trees in
     handed_on c.in_err-from_row-in-len1.field-0.0 c.from_residual-in_err-from_row-in-len1.result (HidesUnits c.args.account.now db) c.from_residual-in_err-from_row-in-len1.ensures.1
     (inr (
-      c.in_err-from_row-in-len1.ensures.fault,
+      c.in_err-from_row-in-len1.ensures.err,
       unread_row c.args.account.now db c.in_ok-rows.rows.items c.row-item.result (sym c.as_slice.ensures.value ∙ only_one _ c.row-item.result c.in-len1.len_at_least c.in-len1.len_below c.row-item.is)
           (λ of. let is = c.in_err-from_row-in-len1.ensures.read of in absurd cc) (c.in_ok-rows.ensures.read.found clean has),
     ))

@@ -26,29 +26,29 @@ returns-clause-taken g c =
     run_overflows g.S.Store g.F.RowFold.step c.args.sender.now c.args.tx.now.conn.now c.loop-number.tx.conn.now c.args.first c.loop-number.number c.args.into.now c.loop-number.into
     (omega (arith, c.loop-number-test.false, c.ranges.first.fits)) c.loop-number.invariant.taken Unread _
 
-pub returns-in_err-take-in-len1-clause-told : goal.returns-in_err-take-in-len1-clause-told
-returns-in_err-take-in-len1-clause-told g c =
+pub returns-in_err-take-in-len1-clause-err : goal.returns-in_err-take-in-len1-clause-err
+returns-in_err-take-in-len1-clause-err g c =
     run_refused g.S.Store g.F.RowFold.step c.args.sender.now c.args.tx.now.conn.now c.loop-number.tx.conn.now c.answer.new.tx.conn.now c.args.first c.loop-number.number c.args.into.now c.loop-number.into
     c.loop-number.auto.number c.loop-number.invariant.taken c.in_ok-rows.rows c.in_ok-rows.ensures.read c.row-item.result g.F.RowFold.refusal c.from_residual-in_err-take-in-len1.result
     (sym c.as_slice.ensures.value ∙ only_one _ c.row-item.result c.in-len1.len_at_least c.in-len1.len_below c.row-item.is)
-    (err_as c.from_residual-in_err-take-in-len1.result c.in_err-take-in-len1.field-0.0 _ c.from_residual-in_err-take-in-len1.ensures.1 c.in_err-take-in-len1.ensures.told)
+    (err_as c.from_residual-in_err-take-in-len1.result c.in_err-take-in-len1.field-0.0 _ c.from_residual-in_err-take-in-len1.ensures.1 c.in_err-take-in-len1.ensures.err)
 
-pub returns-in_default-clause-told : goal.returns-in_default-clause-told
-returns-in_default-clause-told g c =
+pub returns-in_default-clause-err : goal.returns-in_default-clause-err
+returns-in_default-clause-err g c =
     run_doubled g.S.Store g.F.RowFold.step c.args.sender.now c.args.tx.now.conn.now c.loop-number.tx.conn.now c.answer.new.tx.conn.now c.args.first c.loop-number.number c.args.into.now c.loop-number.into
     c.loop-number.auto.number c.loop-number.invariant.taken c.in_ok-rows.rows c.in_ok-rows.ensures.read g.F.RowFold.refusal (omega (arith, c.in_default.len_at_least, ap length c.as_slice.ensures.value))
 
-pub returns-in_ok-take-in-len1-clause-told : goal.returns-in_ok-take-in-len1-clause-told
-returns-in_ok-take-in-len1-clause-told g c =
+pub returns-in_ok-take-in-len1-clause-err : goal.returns-in_ok-take-in-len1-clause-err
+returns-in_ok-take-in-len1-clause-err g c =
     let on = runs_on g.S.Store g.F.RowFold.step c.args.sender.now c.args.tx.now.conn.now c.loop-number.tx.conn.now c.answer.new.tx.conn.now c.args.first c.loop-number.number c.args.into.now c.loop-number.into
     c.loop-number.auto.number c.loop-number.invariant.taken c.in_ok-rows.rows c.in_ok-rows.ensures.read c.row-item.result c.take.new.self
     (sym c.as_slice.ensures.value ∙ only_one _ c.row-item.result c.in-len1.len_at_least c.in-len1.len_below c.row-item.is) c.in_ok-take-in-len1.ensures.taken in
     run_fills g.S.Store g.F.RowFold.step g.F.RowFold.refusal c.args.sender.now c.args.tx.now.conn.now c.answer.new.tx.conn.now c.args.first (c.loop-number.number + 1) c.args.into.now c.take.new.self (omega (arith, c.loop-number-test.true, c.ranges.first.fits)) on
 
-pub returns-in_err-rows-clause-told : goal.returns-in_err-rows-clause-told
-returns-in_err-rows-clause-told g c =
+pub returns-in_err-rows-clause-err : goal.returns-in_err-rows-clause-err
+returns-in_err-rows-clause-err g c =
     run_told g.S.Store g.F.RowFold.step c.args.sender.now c.args.tx.now.conn.now c.loop-number.tx.conn.now c.answer.new.tx.conn.now c.args.first c.loop-number.number c.args.into.now c.loop-number.into
-    c.loop-number.auto.number c.loop-number.invariant.taken g.F.RowFold.refusal c.in_err-rows.field-0.0 c.from_residual.result c.from_residual.ensures.1 c.in_err-rows.ensures.read.survives c.in_err-rows.ensures.told
+    c.loop-number.auto.number c.loop-number.invariant.taken g.F.RowFold.refusal c.in_err-rows.field-0.0 c.from_residual.result c.from_residual.ensures.1 c.in_err-rows.ensures.read.survives c.in_err-rows.ensures.err
 
 pub returns-in_err-take-in-len1-clause-taken : goal.returns-in_err-take-in-len1-clause-taken
 returns-in_err-take-in-len1-clause-taken g c =
@@ -72,7 +72,7 @@ returns-in_err-take-in-len1-clause-medium g c =
     inr (either _ _ c.from_residual-in_err-take-in-len1.result (run_refuses g.S.Store g.F.RowFold.step c.args.sender.now c.args.tx.now.conn.now c.loop-number.tx.conn.now c.answer.new.tx.conn.now c.args.first c.loop-number.number c.args.into.now c.loop-number.into
     c.loop-number.auto.number c.loop-number.invariant.taken c.in_ok-rows.rows c.in_ok-rows.ensures.read c.row-item.result g.F.RowFold.refusal c.from_residual-in_err-take-in-len1.result
     (sym c.as_slice.ensures.value ∙ only_one _ c.row-item.result c.in-len1.len_at_least c.in-len1.len_below c.row-item.is)
-    (err_as c.from_residual-in_err-take-in-len1.result c.in_err-take-in-len1.field-0.0 _ c.from_residual-in_err-take-in-len1.ensures.1 c.in_err-take-in-len1.ensures.told)))
+    (err_as c.from_residual-in_err-take-in-len1.result c.in_err-take-in-len1.field-0.0 _ c.from_residual-in_err-take-in-len1.ensures.1 c.in_err-take-in-len1.ensures.err)))
 
 pub returns-in_default-clause-medium : goal.returns-in_default-clause-medium
 returns-in_default-clause-medium g c =

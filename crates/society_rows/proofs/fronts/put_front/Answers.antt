@@ -22,8 +22,8 @@ returns-clause-written g c =
     writes_by HasLayout old new put_front_text (front_values row) c.run.result (Puts fronts (front_values row)) (λ clean inside. rw c.params.ensures at (c.run.ensures.ran clean inside)) c.run.ensures.survives
     (λ count. puts (settled name.Fronts) (λ cuts payments. refl) (front_put row) old new count)
 
-pub returns-clause-told : goal.returns-clause-told
-returns-clause-told g c =
+pub returns-clause-err : goal.returns-clause-err
+returns-clause-err g c =
     let row = c.args.row.now in
     let old = state g.S.Store c.args.tx.now.conn.now in
     let new = state g.S.Store c.run.new.tx.conn.now in

@@ -11,8 +11,8 @@ returns-clause-made g c =
     let old = state g.S.Store c.args.tx.now.conn.now in
     writes_as (HasFirst 0) IsBare old (state g.S.Store c.make_tables.new.tx.conn.now) c.make_tables.result (Extends 0) (λ _. IsEmptyBook) (bare_first old.now) (λ d e made. record { layout = made.layout; empty = made.empty }) c.make_tables.ensures.made
 
-pub returns-clause-told : goal.returns-clause-told
-returns-clause-told g c = λ inside clean bare. c.make_tables.ensures.told inside clean (bare_first (state g.S.Store c.args.tx.now.conn.now).now bare)
+pub returns-clause-err : goal.returns-clause-err
+returns-clause-err g c = λ inside clean bare. c.make_tables.ensures.err inside clean (bare_first (state g.S.Store c.args.tx.now.conn.now).now bare)
 
 pub returns-clause-blamed : goal.returns-clause-blamed
 returns-clause-blamed g c = λ clean inside bare. c.make_tables.ensures.blamed clean inside (bare_first (state g.S.Store c.args.tx.now.conn.now).now bare)

@@ -51,8 +51,8 @@ returns-in_err-run-clause-made g c =
     writes_fail (HasFirst from) (HasFirst i) first old new tt (Grows from i) (Extends from) (λ d e h. first_of h.first) _ _ c.in_err-run.field-0.0 c.from_residual.result c.from_residual.ensures.0 c.loop-at.invariant.made
     c.in_err-run.ensures.ran c.in_err-run.ensures.survives
 
-pub returns-in_err-run-clause-told : goal.returns-in_err-run-clause-told
-returns-in_err-run-clause-told g c =
+pub returns-in_err-run-clause-err : goal.returns-in_err-run-clause-err
+returns-in_err-run-clause-err g c =
     let i = c.loop-at.at in
     let from = c.args.from in
     let first = state g.S.Store c.args.tx.now.conn.now in

@@ -19,8 +19,8 @@ returns-clause-written g c =
     writes_by HasLayout old new (insert_text c.args.rows) (one_after_another it.rows) c.run.result (Adds (table_called it.table) it.rows) (λ clean inside. rw (c.insert_of.ensures, c.requires) at (c.run.ensures.ran clean inside)) c.run.ensures.survives
     (λ count. adds (settled it.table) (inserted c.args.rows) old new count)
 
-pub returns-clause-told : goal.returns-clause-told
-returns-clause-told g c =
+pub returns-clause-err : goal.returns-clause-err
+returns-clause-err g c =
     let it = added c.args.rows in
     let old = state g.S.Store c.args.tx.now.conn.now in
     let new = state g.S.Store c.run.new.tx.conn.now in

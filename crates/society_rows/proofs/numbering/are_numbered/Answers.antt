@@ -19,8 +19,8 @@ returns-in_err-rows-clause-read g c =
     reads_not (HasTable table) old new fault c.from_residual.result _ (λ db yes. IsTrue yes ↔ AreNumbered (table_called table) db)
     (reads (numbered table) old new (Err fault) (λ clean. rw c.rowids.ensures at (c.in_err-rows.ensures.selected clean)) c.in_err-rows.ensures.survives) c.from_residual.ensures.1
 
-pub returns-in_err-rows-clause-told : goal.returns-in_err-rows-clause-told
-returns-in_err-rows-clause-told g c = λ clean has.
+pub returns-in_err-rows-clause-err : goal.returns-in_err-rows-clause-err
+returns-in_err-rows-clause-err g c = λ clean has.
     handed_on c.in_err-rows.field-0.0 c.from_residual.result _ c.from_residual.ensures.1
     (query_tells (numbered c.args.table) (state g.S.Store c.args.tx.now.conn.now) (state g.S.Store c.select.new.tx.conn.now) (Err c.in_err-rows.field-0.0) (λ clean. rw c.rowids.ensures at (c.in_err-rows.ensures.selected clean)) clean has)
 

@@ -39,7 +39,7 @@ returns-in_err-add_part g c =
           c.from_residual.ensures.0 c.in_err-add_part.ensures.written;
       left = some_left g.R.PairedRow.table g.R.PairedRow.values c.args.rows.now _ old on new c.loop-part.invariant.some c.in_err-add_part.field-0.0 c.from_residual.result c.in_err-add_part.ensures.written.survives
           c.in_err-add_part.ensures.whole;
-      told = tells_after HasLayout HasLayout old on new c.loop-part.invariant.some.written (λ d e h. h.layout) c.in_err-add_part.field-0.0 c.from_residual.result c.from_residual.ensures.1 c.in_err-add_part.ensures.written.survives c.in_err-add_part.ensures.told;
+      err = tells_after HasLayout HasLayout old on new c.loop-part.invariant.some.written (λ d e h. h.layout) c.in_err-add_part.field-0.0 c.from_residual.result c.from_residual.ensures.1 c.in_err-add_part.ensures.written.survives c.in_err-add_part.ensures.err;
       blamed = blames_after HasLayout HasLayout old on new c.loop-part.invariant.some.written (λ d e h. h.layout) c.in_err-add_part.field-0.0 c.from_residual.result c.from_residual.ensures.1 c.in_err-add_part.ensures.written.survives c.in_err-add_part.ensures.blamed;
     }
 

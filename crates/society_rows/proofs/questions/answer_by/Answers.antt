@@ -8,8 +8,8 @@ pub returns-clause-read : goal.returns-clause-read
 returns-clause-read g c =
     reads_laid (asked c.args.question) (state g.S.Store c.args.tx.now.conn.now) (state g.S.Store c.select.new.tx.conn.now) c.select.result (λ clean. rw (c.query_of.ensures, c.requires) at (c.select.ensures.selected clean)) c.select.ensures.survives
 
-pub returns-clause-told : goal.returns-clause-told
-returns-clause-told g c =
+pub returns-clause-err : goal.returns-clause-err
+returns-clause-err g c =
     query_tells_laid (asked c.args.question) (state g.S.Store c.args.tx.now.conn.now) (state g.S.Store c.select.new.tx.conn.now) c.select.result (λ clean. rw (c.query_of.ensures, c.requires) at (c.select.ensures.selected clean))
 
 pub returns-clause-medium : goal.returns-clause-medium

@@ -14,10 +14,10 @@ returns-clause-raised g c =
     writes_then (HasOlder from) HasLayout (state g.S.Store c.args.tx.now.conn.now) (state g.S.Store c.make_tables.new.tx.conn.now) (state g.S.Store c.rename.new.tx.conn.now) tt c.rename.result
     (Extends (tables_of from)) Renames (BecomesNewest from) (λ d e h. h.layout) (becomes from) (rw (c.table_count.ensures) at c.in_ok-make_tables.ensures.made) c.rename.ensures.renamed
 
-pub returns-clause-told : goal.returns-clause-told
-returns-clause-told g c =
+pub returns-clause-err : goal.returns-clause-err
+returns-clause-err g c =
     tells_then (HasOlder c.args.from) HasLayout (state g.S.Store c.args.tx.now.conn.now) (state g.S.Store c.make_tables.new.tx.conn.now) (state g.S.Store c.rename.new.tx.conn.now)
-    (rw (c.table_count.ensures) at c.in_ok-make_tables.ensures.made) (λ d e h. h.layout) c.rename.result c.rename.ensures.renamed.survives c.rename.ensures.told
+    (rw (c.table_count.ensures) at c.in_ok-make_tables.ensures.made) (λ d e h. h.layout) c.rename.result c.rename.ensures.renamed.survives c.rename.ensures.err
 
 pub returns-clause-blamed : goal.returns-clause-blamed
 returns-clause-blamed g c =

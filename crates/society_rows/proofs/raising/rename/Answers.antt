@@ -17,8 +17,8 @@ returns-clause-renamed g c =
     let new = state g.S.Store c.run.new.tx.conn.now in
     writes_by HasLayout old new update_text newest c.run.result Renames (λ clean inside. rw (c.to_sql.ensures) at (c.run.ensures.ran clean inside)) c.run.ensures.survives (renames old new)
 
-pub returns-clause-told : goal.returns-clause-told
-returns-clause-told g c =
+pub returns-clause-err : goal.returns-clause-err
+returns-clause-err g c =
     let old = state g.S.Store c.args.tx.now.conn.now in
     let new = state g.S.Store c.run.new.tx.conn.now in
     statement_tells HasLayout update_text newest old new c.run.result c.run.ensures.ended (λ clean inside. rw (c.to_sql.ensures) at (c.run.ensures.ran clean inside)) (update_codes update_text (settled name.Office) update_is newest refl old new)

@@ -8,8 +8,8 @@ pub returns-clause-read : goal.returns-clause-read
 returns-clause-read g c =
     reads (listed c.args.table) (state g.S.Store c.args.tx.now.conn.now) (state g.S.Store c.select.new.tx.conn.now) c.select.result (λ clean. rw c.listing.ensures at (c.select.ensures.selected clean)) c.select.ensures.survives
 
-pub returns-clause-told : goal.returns-clause-told
-returns-clause-told g c =
+pub returns-clause-err : goal.returns-clause-err
+returns-clause-err g c =
     query_tells (listed c.args.table) (state g.S.Store c.args.tx.now.conn.now) (state g.S.Store c.select.new.tx.conn.now) c.select.result (λ clean. rw c.listing.ensures at (c.select.ensures.selected clean))
 
 pub returns-clause-medium : goal.returns-clause-medium

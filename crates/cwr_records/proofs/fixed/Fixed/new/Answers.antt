@@ -1,12 +1,7 @@
 use Rattle.std.proofs.Common.{rules}
 use Rattle.cwr_records.specs.Lines.{fill_field}
-use Rattle.cwr_records.proofs.lemmas.Fields.{filled-length}
 use Rattle.cwr_records.proofs.fixed.Fixed.new.Goals as goal
 
 pub returns-clause-value : goal.returns-clause-value
 unfolding fill_field
 returns-clause-value g c = search rules
-
-pub returns-clause-len : goal.returns-clause-len
-unfolding fill_field
-returns-clause-len g c = filled-length c.args.present.now g.row.WIDTH c.requires

@@ -1,6 +1,4 @@
-use Rattle.std.proofs.Common.{◌≡◌, ◌∙◌, ◌+◌, ◌-◌, rules, ap}
-use Rattle.cwr_records.specs.declared.layout.Position.{Position}
-use Rattle.cwr_records.specs.Layouts.{field_in}
+use Rattle.std.proofs.Common.{◌≡◌, ◌∙◌, ◌+◌, ◌-◌, rules}
 use Rattle.cwr_records.proofs.lemmas.Layouts.{is_wide-tells}
 use Rattle.cwr_records.proofs.layout.LineFields.at.Goals as goal
 
@@ -15,13 +13,9 @@ pub at-requires-clause-in_order : goal.at-requires-clause-in_order
 at-requires-clause-in_order g c =
     rw c.position_at-position.ensures (is_wide-tells c.args.self.now.positions.now c.args.index g.row.WIDTH c.requires).in_order
 
-pub fixed-requires : goal.fixed-requires
-fixed-requires g c =
+pub to_fixed-requires : goal.to_fixed-requires
+to_fixed-requires g c =
     let tells = is_wide-tells c.args.self.now.positions.now c.args.index g.row.WIDTH c.requires in
     let p = c.position_at-position.result in
     let wide : p.to + 1 - p.from ≡ g.row.WIDTH = rw c.position_at-position.ensures tells.wide in
     search (rules, c.at.ensures.width ∙ wide)
-
-pub returns : goal.returns
-returns g c =
-    c.fixed.ensures ∙ c.at.ensures.value ∙ ap (λ (p : Position). field_in c.args.self.now.line p) c.position_at-position.ensures

@@ -14,8 +14,8 @@ pub returns-in-Err-clause-reads : goal.returns-in-Err-clause-reads
 returns-in-Err-clause-reads g c =
     ReadsOn-failed _ _ _ _ _ _ _ _ _ c.make_room.ensures.bytes c.make_room.ensures.turns c.in-Err.ensures.bytes c.in-Err.ensures.uncounted c.args.reader.now.reads_fit
 
-pub returns-in-Err-clause-fault : goal.returns-in-Err-clause-fault
-returns-in-Err-clause-fault g c = search rules
+pub returns-in-Err-clause-err : goal.returns-in-Err-clause-err
+returns-in-Err-clause-err g c = search rules
 
 pub returns-in-Ok-eq0-clause-reads : goal.returns-in-Ok-eq0-clause-reads
 returns-in-Ok-eq0-clause-reads g c = search rules

@@ -31,20 +31,20 @@ returns-clause-looks g c =
       subst (λ (ks : List ReturnKey). length (flat_map (rows_of_return b) ks) ≤ 10000000) c.returns.ensures.value its.1,
     ))
 
-pub returns-in_err-tally-clause-errs : goal.returns-in_err-tally-clause-errs
-returns-in_err-tally-clause-errs g c =
+pub returns-in_err-tally-clause-err : goal.returns-in_err-tally-clause-err
+returns-in_err-tally-clause-err g c =
     let order = c.args.order.now in
     errs_on Tally (LackReturns order.returns) (LackReturns order.returns) (state g.S.Store c.args.tx.now.conn.now) (state g.S.Store c.tally_of.new.tx.conn.now) _ c.from_residual.result
-    (rw c.returns.ensures.value at c.in_err-tally.ensures.errs) c.from_residual.ensures.1 (λ no. no)
+    (rw c.returns.ensures.value at c.in_err-tally.ensures.err) c.from_residual.ensures.1 (λ no. no)
 
-pub returns-in_err-recordings-clause-errs : goal.returns-in_err-recordings-clause-errs
-returns-in_err-recordings-clause-errs g c =
+pub returns-in_err-recordings-clause-err : goal.returns-in_err-recordings-clause-err
+returns-in_err-recordings-clause-err g c =
     let old = state g.S.Store c.args.tx.now.conn.now in
     errs_as (LackReturns c.args.order.now.returns) old (state g.S.Store c.tally_of.new.tx.conn.now) c.in_ok-tally.tally c.from_residual-in_err-recordings.result _ c.in_ok-tally.ensures.looks
     (λ all. blames_memory (LackReturns c.args.order.now.returns old.now.trees) c.from_residual-in_err-recordings.result c.from_residual-in_err-recordings.ensures.1)
 
-pub returns-in_err-add-clause-errs : goal.returns-in_err-add-clause-errs
-returns-in_err-add-clause-errs g c =
+pub returns-in_err-add-clause-err : goal.returns-in_err-add-clause-err
+returns-in_err-add-clause-err g c =
     let old = state g.S.Store c.args.tx.now.conn.now in
     errs_as (LackReturns c.args.order.now.returns) old (state g.S.Store c.tally_of.new.tx.conn.now) c.in_ok-tally.tally c.from_residual-in_err-add.result _ c.in_ok-tally.ensures.looks
     (λ all. blames_memory (LackReturns c.args.order.now.returns old.now.trees) c.from_residual-in_err-add.result c.from_residual-in_err-add.ensures.1)

@@ -45,11 +45,11 @@ returns-clause-looks g c =
     (λ lists. all_senders_listed wanted works (λ q. list_any (λ (one : List ℕ). bytes_eq one q) senders) db (λ s is. among_turned s senders ∙ ap (list_any (bytes_eq s)) keys ∙ any_bytes s wanted.senders.keys ∙ is)
     (subst (λ (l : List (List ℕ)). ListsSender (λ q. list_any (λ (one : List ℕ). bytes_eq one q) l) wanted.recordings works db) (take_all c.loop-sender.sender-index senders c.loop-sender-test.false) lists))
 
-pub returns-in_err-senders-clause-errs : goal.returns-in_err-senders-clause-errs
-returns-in_err-senders-clause-errs g c =
+pub returns-in_err-senders-clause-err : goal.returns-in_err-senders-clause-err
+returns-in_err-senders-clause-err g c =
     errs_memory HoldNoWorks (state g.S.Store c.args.tx.now.conn.now) (state g.S.Store c.args.tx.now.conn.now) c.from_residual.result c.from_residual.ensures.1
 
-pub returns-in_err-list_sender-clause-errs : goal.returns-in_err-list_sender-clause-errs
-returns-in_err-list_sender-clause-errs g c =
+pub returns-in_err-list_sender-clause-err : goal.returns-in_err-list_sender-clause-err
+returns-in_err-list_sender-clause-err g c =
     errs_passed (Unit {0}) HoldNoWorks HoldNoWorks (state g.S.Store c.args.tx.now.conn.now) (state g.S.Store c.loop-sender.tx.conn.now) (state g.S.Store c.list_sender.new.tx.conn.now) tt _ c.from_residual-in_err-list_sender.result _ _
-    c.loop-sender.invariant.looks c.in_err-list_sender.ensures.looks c.in_err-list_sender.ensures.errs c.from_residual-in_err-list_sender.ensures.1 (λ first no. no)
+    c.loop-sender.invariant.looks c.in_err-list_sender.ensures.looks c.in_err-list_sender.ensures.err c.from_residual-in_err-list_sender.ensures.1 (λ first no. no)

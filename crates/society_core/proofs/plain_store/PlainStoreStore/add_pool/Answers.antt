@@ -1,4 +1,4 @@
-use Rattle.std.proofs.Common.{refl}
+use Rattle.std.proofs.Common.{refl, rules}
 use Rattle.society_core.proofs.lemmas.Stores.{from_one, sound_after_pool}
 use Rattle.society_core.proofs.plain_store.PlainStoreStore.add_pool.Goals as goal
 
@@ -6,5 +6,5 @@ pub invariant_of-self : goal.invariant_of-self
 invariant_of-self c = record {
   sound =
       sound_after_pool c.insert_pool.result c.args.self.now.book c.insert_pool.new.self c.args.pool c.args.order.now c.insert_pool.ensures.ok c.insert_pool.ensures.err c.args.self.now.sound
-      (from_one 99999 c.args.pool c.value-number.ensures.limits.0 c.value-number.ensures.limits.1) c.insert_pool.ensures.order (c.requires.right refl);
+      (from_one 99999 c.args.pool (search rules) (search rules)) c.insert_pool.ensures.order (c.requires.right refl);
 }

@@ -20,9 +20,6 @@ slice_bounds-short_number-end-2 c = omega (arith, (dated_form c.args.text.now (s
 pub short_number-requires-2-clause-digits : goal.short_number-requires-2-clause-digits
 short_number-requires-2-clause-digits c = (dated_form c.args.text.now (search rules)).sequence
 
-pub short_number-requires-2-clause-length : goal.short_number-requires-2-clause-length
-short_number-requires-2-clause-length c = omega (arith, (dated_form c.args.text.now (search rules)).four_long)
-
 pub returns-clause-value : goal.returns-clause-value
 returns-clause-value c =
     dated_is c.args.text.now (search rules) c.short_number.result c.short_number-2.result c.short_number.ensures.value c.short_number-2.ensures.value

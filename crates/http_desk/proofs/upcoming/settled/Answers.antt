@@ -1,5 +1,0 @@
-use Rattle.http_desk.proofs.lemmas.UpcomingLemmas.{whole_part}
-use Rattle.http_desk.proofs.upcoming.settled.Goals as goal
-
-pub returns-else-bytes-head : goal.returns-else-bytes-head
-returns-else-bytes-head c = λ society known. whole_part _ _ c.in-Whole.ensures c.if-bytes-head.false
