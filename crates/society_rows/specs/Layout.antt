@@ -1,5 +1,5 @@
 -- The fourteen tables of layout 3: the book, what is derived from it, where segments end, and pools of mechanical rights (profile).
-use Rattle.std.specs.Prelude.{ℕ, pos, true, false, List, [], ◌∷◌, fold, codes, Some, None}
+use Rattle.std.specs.Prelude.{ℕ, pos, true, false, List, [], ◌∷◌, map, codes, Some, None}
 use Rattle.sqlite_value.specs.declared.value.Value.TheVariants.{Null, Int}
 use Rattle.sqlite_value.specs.declared.keys.Collation.TheVariants.{Binary}
 use Rattle.sqlite_value.specs.Keys.{plain}
@@ -13,7 +13,8 @@ use Rattle.sqlite_schema.specs.declared.schema.Column.{Column}
 use Rattle.sqlite_schema.specs.declared.schema.Reference.{Reference}
 use Rattle.sqlite_schema.specs.declared.schema.Table.{Table}
 use Rattle.sqlite_schema.specs.declared.schema.Schema.{Schema}
-use Rattle.sqlite_catalog.specs.Change.{created}
+use Rattle.society_rows.specs.declared.tables.TableName.{TableName}
+use Rattle.society_rows.specs.declared.tables.TableName.TheVariants as name
 
 -- a column that holds one kind of value and no NULL
 abbrev pub column_of : Kind → List ℕ → Column
@@ -133,21 +134,67 @@ mechanical_pools =
 abbrev pub no_schema : Schema
 no_schema = record { tables = []; indexes = []; views = [] }
 
+-- what is said of a table: how SQLite keeps it, how many tables the first layout has that has it, by how many of its first columns its rows
+-- are listed (those of its key, or all, so that rows which are listed alike are one), and the text that makes it
+pub record TableFacts : Type 0 where
+  pub table : Table
+  pub since : ℕ
+  pub width : ℕ
+  pub create : List ℕ
+
+abbrev pub facts : TableName → TableFacts
+facts name.Office =
+    record { table = office; since = 6; width = 1; create = codes "CREATE TABLE office (one INTEGER NOT NULL PRIMARY KEY CHECK (one = 1), layout INTEGER NOT NULL, society INTEGER NOT NULL, territory INTEGER NOT NULL, name TEXT NOT NULL) STRICT" }
+facts name.Transmissions =
+    record { table = transmissions; since = 6; width = 2; create = codes "CREATE TABLE transmissions (sender TEXT NOT NULL, number INTEGER NOT NULL, body BLOB NOT NULL, PRIMARY KEY (sender, number)) STRICT" }
+facts name.Returns =
+    record { table = returns; since = 6; width = 2; create = codes "CREATE TABLE returns (reporter TEXT NOT NULL, number INTEGER NOT NULL, body BLOB NOT NULL, PRIMARY KEY (reporter, number)) STRICT" }
+facts name.Pools =
+    record { table = pools; since = 6; width = 1; create = codes "CREATE TABLE pools (pool INTEGER NOT NULL PRIMARY KEY, amount INTEGER NOT NULL) STRICT" }
+facts name.PoolCuts =
+    record { table = pool_cuts; since = 6; width = 3; create = codes "CREATE TABLE pool_cuts (pool INTEGER NOT NULL, sender TEXT NOT NULL, number INTEGER NOT NULL, PRIMARY KEY (pool, sender), FOREIGN KEY (pool) REFERENCES pools (pool), FOREIGN KEY (sender, number) REFERENCES transmissions (sender, number)) STRICT" }
+facts name.PoolReturns =
+    record { table = pool_returns; since = 6; width = 3; create = codes "CREATE TABLE pool_returns (reporter TEXT NOT NULL, number INTEGER NOT NULL, pool INTEGER NOT NULL, PRIMARY KEY (reporter, number), FOREIGN KEY (reporter, number) REFERENCES returns (reporter, number), FOREIGN KEY (pool) REFERENCES pools (pool)) STRICT" }
+facts name.Fronts =
+    record { table = fronts; since = 12; width = 1; create = codes "CREATE TABLE fronts (sender TEXT NOT NULL PRIMARY KEY, front INTEGER NOT NULL, works INTEGER NOT NULL) STRICT" }
+facts name.Verdicts =
+    record { table = verdicts; since = 12; width = 6; create = codes "CREATE TABLE verdicts (sender TEXT NOT NULL, number INTEGER NOT NULL, place INTEGER NOT NULL, fault INTEGER NOT NULL, ordinal INTEGER NOT NULL, revision INTEGER NOT NULL, PRIMARY KEY (sender, number, place)) STRICT" }
+facts name.Versions =
+    record { table = versions; since = 12; width = 6; create = codes "CREATE TABLE versions (sender TEXT NOT NULL, work TEXT NOT NULL, revision INTEGER NOT NULL, number INTEGER NOT NULL, place INTEGER NOT NULL, ordinal INTEGER NOT NULL, PRIMARY KEY (sender, work, revision)) STRICT" }
+facts name.Recordings =
+    record { table = recordings; since = 12; width = 4; create = codes "CREATE TABLE recordings (sender TEXT NOT NULL, work TEXT NOT NULL, revision INTEGER NOT NULL, isrc TEXT NOT NULL, PRIMARY KEY (sender, work, revision, isrc)) STRICT" }
+facts name.Credits =
+    record { table = credits_table; since = 12; width = 2; create = codes "CREATE TABLE credits (pool INTEGER NOT NULL, line INTEGER NOT NULL, isrc TEXT NOT NULL, account TEXT NOT NULL, units INTEGER NOT NULL, PRIMARY KEY (pool, line)) STRICT" }
+facts name.Balances =
+    record { table = balances; since = 12; width = 1; create = codes "CREATE TABLE balances (account TEXT NOT NULL PRIMARY KEY, units INTEGER NOT NULL) STRICT" }
+facts name.SegmentEnds =
+    record { table = segment_ends; since = 14; width = 4; create = codes "CREATE TABLE segment_ends (sender TEXT NOT NULL, segment INTEGER NOT NULL, last INTEGER NOT NULL, next INTEGER NOT NULL, PRIMARY KEY (sender, segment)) STRICT" }
+facts name.MechanicalPools =
+    record { table = mechanical_pools; since = 14; width = 1; create = codes "CREATE TABLE mechanical_pools (pool INTEGER NOT NULL PRIMARY KEY, FOREIGN KEY (pool) REFERENCES pools (pool)) STRICT" }
+
+-- the table of that name
+abbrev pub table_called : TableName → Table
+table_called name = (facts name).table
+
+-- the same, with these references of cuts and of payments
+abbrev pub table_with : List Reference → List Reference → TableName → Table
+table_with cuts payments name.PoolCuts = record pool_cuts { references = cuts }
+table_with cuts payments name.PoolReturns = record pool_returns { references = payments }
+table_with cuts payments name = table_called name
+
 -- in the order in which they are made
+abbrev pub all_names : List TableName
+all_names =
+    name.Office ∷ name.Transmissions ∷ name.Returns ∷ name.Pools ∷ name.PoolCuts ∷ name.PoolReturns ∷ name.Fronts ∷ name.Verdicts ∷ name.Versions ∷ name.Recordings ∷ name.Credits ∷ name.Balances ∷ name.SegmentEnds ∷ name.MechanicalPools ∷ []
+
 unfoldable pub all_tables : List Table
-all_tables =
-    office ∷ transmissions ∷ returns ∷ pools ∷ pool_cuts ∷ pool_returns ∷ fronts ∷ verdicts ∷ versions ∷ recordings ∷ credits_table ∷ balances ∷ segment_ends ∷ mechanical_pools ∷ []
+all_tables = map table_called all_names
 
 -- the same, with these references of cuts and of payments
 unfoldable pub tables_with : List Reference → List Reference → List Table
-tables_with cuts payments =
-    office ∷ transmissions ∷ returns ∷ pools ∷ (record pool_cuts { references = cuts }) ∷ (record pool_returns { references = payments }) ∷ fronts ∷ verdicts ∷ versions ∷ recordings ∷ credits_table ∷ balances ∷ segment_ends ∷ mechanical_pools ∷ []
+tables_with cuts payments = map (table_with cuts payments) all_names
 
--- the schema of layout 3, with its references as they are listed above
-unfoldable pub layout : Schema
-layout = fold created no_schema all_tables
-
--- opens the layout and each of its tables
+-- opens each of the tables and their lists
 unfoldable pub written_out : Unit {0}
-unfolding layout all_tables tables_with office transmissions returns pools pool_cuts pool_returns fronts verdicts versions recordings credits_table balances segment_ends mechanical_pools
+unfolding all_tables tables_with office transmissions returns pools pool_cuts pool_returns fronts verdicts versions recordings credits_table balances segment_ends mechanical_pools
 written_out = tt

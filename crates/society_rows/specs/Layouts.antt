@@ -9,8 +9,7 @@ use Rattle.sqlite.specs.Effect.{Database}
 use Rattle.society_rows.specs.declared.older.OlderLayout.{OlderLayout}
 use Rattle.society_rows.specs.declared.older.OlderLayout.TheVariants as older
 use Rattle.society_rows.specs.declared.tables.TableName.{TableName}
-use Rattle.society_rows.specs.declared.tables.TableName.TheVariants as name
-use Rattle.society_rows.specs.Layout.{no_schema, pool_cuts, pool_returns, tables_with}
+use Rattle.society_rows.specs.Layout.{facts, no_schema, pool_cuts, pool_returns, tables_with}
 
 -- the schema of so many of the first tables, with these references of cuts and of payments
 abbrev pub schema_to : ℕ → List Reference → List Reference → Schema
@@ -57,20 +56,7 @@ pub record HasTables (count : ℕ) (db : Database) : Type 0 where
 
 -- how many tables the first layout has that has this one
 abbrev pub first_table_count : TableName → ℕ
-first_table_count name.Office = 6
-first_table_count name.Transmissions = 6
-first_table_count name.Returns = 6
-first_table_count name.Pools = 6
-first_table_count name.PoolCuts = 6
-first_table_count name.PoolReturns = 6
-first_table_count name.Fronts = 12
-first_table_count name.Verdicts = 12
-first_table_count name.Versions = 12
-first_table_count name.Recordings = 12
-first_table_count name.Credits = 12
-first_table_count name.Balances = 12
-first_table_count name.SegmentEnds = 14
-first_table_count name.MechanicalPools = 14
+first_table_count name = (facts name).since
 
 -- the tables are there of the first layout that has this one
 abbrev pub HasTable : TableName → Database → Type 0

@@ -22,4 +22,3 @@ pub mod SegmentColumns
 pub mod Shapes
 pub mod Stored
 pub mod TableNames
-pub mod Texts

@@ -1,5 +1,5 @@
 -- The senders of the rows of what is derived of their lines.
-use Rattle.std.specs.Prelude.{ℕ, List, [], ◌∷◌, map, codes, IsPermutation}
+use Rattle.std.specs.Prelude.{ℕ, List, [], ◌∷◌, map, take, IsPermutation}
 use Rattle.sqlite_value.specs.Order.{Row, column}
 use Rattle.sqlite_trees.specs.Tree.{Trees}
 use Rattle.sqlite_schema.specs.declared.schema.Table.{Table}
@@ -7,6 +7,7 @@ use Rattle.society_rows.specs.declared.line_senders.LineTable.{LineTable}
 use Rattle.society_rows.specs.declared.line_senders.LineTable.TheVariants as name
 use Rattle.society_rows.specs.Layout.{fronts, verdicts, versions, recordings, credits_table}
 use Rattle.society_rows.specs.Stored.{rows_in}
+use Rattle.society_rows.specs.TableNames.{column_names, select_text}
 
 -- the table of that name
 abbrev pub line_table : LineTable → Table
@@ -18,11 +19,7 @@ line_table name.Credits = credits_table
 
 -- the query that shows the first column of every row, the sender or the pool, in any order
 abbrev pub senders_text : LineTable → List ℕ
-senders_text name.Fronts = codes "SELECT sender FROM fronts"
-senders_text name.Verdicts = codes "SELECT sender FROM verdicts"
-senders_text name.Versions = codes "SELECT sender FROM versions"
-senders_text name.Recordings = codes "SELECT sender FROM recordings"
-senders_text name.Credits = codes "SELECT pool FROM credits"
+senders_text name = let table = line_table name in select_text table (take 1 (column_names table))
 
 -- a row's first column alone
 abbrev pub first_of : Row → Row

@@ -15,10 +15,24 @@ ghost use Rattle.society_rows.specs.Between.{within};
 
 use crate::new_rows::{NewRows, add};
 use crate::reading::{integer, text};
+use crate::shapes::{Rows, TableShape};
 use crate::statement::run;
 use crate::{Question, RowFault, answer};
 use sqlite::{Alter, Row, Transaction};
+use sqlite_schema::schema::Kind::{Integer, Text};
 use sqlite_value::value::ValueRef;
+
+/// The table, and the statements over all of it.
+pub(crate) const BALANCES: TableShape<'static> = TableShape {
+    name: "balances",
+    columns: &[("account", Text), ("units", Integer)],
+    rows: Rows::Keyed,
+    key: &[1],
+    parents: &[],
+    create: "CREATE TABLE balances (account TEXT NOT NULL PRIMARY KEY, units INTEGER NOT NULL) STRICT",
+    listing: "SELECT account, units FROM balances ORDER BY account",
+    rowids: "SELECT rowid FROM balances",
+};
 
 /// What an account has: its units of money over all pools.
 #[derive(Clone, Copy, Debug)]

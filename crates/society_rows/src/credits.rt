@@ -13,9 +13,29 @@ use crate::RowFault;
 use crate::new_rows::NewRows;
 use crate::pairing::{PairedRow, add_all};
 use crate::reading::{integer, text, whole};
+use crate::shapes::{Rows, TableShape};
 use sqlite::types::ToSql;
 use sqlite::{Alter, Row, Transaction};
+use sqlite_schema::schema::Kind::{Integer, Text};
 use sqlite_value::value::ValueRef;
+
+/// The table, and the statements over all of it.
+pub(crate) const CREDITS: TableShape<'static> = TableShape {
+    name: "credits",
+    columns: &[
+        ("pool", Integer),
+        ("line", Integer),
+        ("isrc", Text),
+        ("account", Text),
+        ("units", Integer),
+    ],
+    rows: Rows::Keyed,
+    key: &[1, 2],
+    parents: &[],
+    create: "CREATE TABLE credits (pool INTEGER NOT NULL, line INTEGER NOT NULL, isrc TEXT NOT NULL, account TEXT NOT NULL, units INTEGER NOT NULL, PRIMARY KEY (pool, line)) STRICT",
+    listing: "SELECT pool, line, isrc, account, units FROM credits ORDER BY pool, line",
+    rowids: "SELECT rowid FROM credits",
+};
 
 /// A credit of a pool: its line from 0, its ISRC or `-`, its account, and its units of money.
 #[derive(Clone, Copy, Debug)]

@@ -11,10 +11,24 @@ ghost use Rattle.society_rows.specs.Between.{within};
 
 use crate::RowFault;
 use crate::reading::{integer, text, whole};
+use crate::shapes::{Rows, TableShape};
 use crate::statement::run;
 use sqlite::types::ToSql;
 use sqlite::{Alter, Row, Transaction};
+use sqlite_schema::schema::Kind::{Integer, Text};
 use sqlite_value::value::ValueRef;
+
+/// The table, and the statements over all of it.
+pub(crate) const FRONTS: TableShape<'static> = TableShape {
+    name: "fronts",
+    columns: &[("sender", Text), ("front", Integer), ("works", Integer)],
+    rows: Rows::Keyed,
+    key: &[1],
+    parents: &[],
+    create: "CREATE TABLE fronts (sender TEXT NOT NULL PRIMARY KEY, front INTEGER NOT NULL, works INTEGER NOT NULL) STRICT",
+    listing: "SELECT sender, front, works FROM fronts ORDER BY sender",
+    rowids: "SELECT rowid FROM fronts",
+};
 
 /// How far a sender's transmissions came: the greatest number up to which all are there, and its accepted works up
 /// to it.

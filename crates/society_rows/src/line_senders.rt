@@ -20,6 +20,7 @@ pub enum LineTable {
 }
 
 // The query that shows the sender of every row of a table.
+#[tactic(auto, unfolding(crate::specs::Layout::written_out))]
 fn senders(table: LineTable) -> &'static str
     ensures { result.now ≡ senders_text table }
 {

@@ -12,9 +12,27 @@ ghost use Rattle.society_rows.specs.Between.{within};
 use crate::RowFault;
 use crate::new_rows::{NewRows, add};
 use crate::reading::whole;
+use crate::shapes::{Parent, Rows, TableShape};
 use sqlite::types::ToSql;
 use sqlite::{Alter, Row, Transaction};
+use sqlite_schema::schema::Kind::Integer;
 use sqlite_value::value::ValueRef;
+
+/// The table, and the statements over all of it.
+pub(crate) const MECHANICAL_POOLS: TableShape<'static> = TableShape {
+    name: "mechanical_pools",
+    columns: &[("pool", Integer)],
+    rows: Rows::Numbered,
+    key: &[0],
+    parents: &[Parent {
+        columns: &[0],
+        parent: "pools",
+        parent_columns: &["pool"],
+    }],
+    create: "CREATE TABLE mechanical_pools (pool INTEGER NOT NULL PRIMARY KEY, FOREIGN KEY (pool) REFERENCES pools (pool)) STRICT",
+    listing: "SELECT pool FROM mechanical_pools ORDER BY pool",
+    rowids: "SELECT rowid FROM mechanical_pools",
+};
 
 /// A pool of mechanical rights, by its number; any other pool is of performing rights.
 #[derive(Clone, Copy, Debug)]

@@ -116,6 +116,7 @@ fn add_by<S: Alter>(
 }
 
 /// Adds rows, whose keys have to be free: all, or none.
+#[tactic(auto, using(crate::proofs::lemmas::changes::Columns::bound_pair))]
 pub(crate) fn add<S: Alter>(tx: &mut Transaction<'_, S>, rows: NewRows<'_>) -> Result<(), RowFault>
     ensures same_reference { tx.new.conn.ghost_name ≡ tx.old.conn.ghost_name }
     ensures written { within S.Store tx.old tx.new Writes result
@@ -127,49 +128,45 @@ pub(crate) fn add<S: Alter>(tx: &mut Transaction<'_, S>, rows: NewRows<'_>) -> R
     match rows {
         NewRows::Office(row) => add_by(tx, rows, &row.params()),
         NewRows::Transmission(row) => add_by(tx, rows, &row.params()),
-        NewRows::Transmissions(one, two) => {
-            let [a, b, c] = one.params();
-            let [d, e, f] = two.params();
-            add_by(tx, rows, &[a, b, c, d, e, f])
-        }
+        NewRows::Transmissions(one, two) => add_by(
+            tx,
+            rows,
+            [one.params(), two.params()].as_flattened(),
+        ),
         NewRows::Return(row) => add_by(tx, rows, &row.params()),
         NewRows::Pool(row) => add_by(tx, rows, &row.params()),
         NewRows::PoolCut(row) => add_by(tx, rows, &row.params()),
-        NewRows::PoolCuts(one, two) => {
-            let [a, b, c] = one.params();
-            let [d, e, f] = two.params();
-            add_by(tx, rows, &[a, b, c, d, e, f])
-        }
+        NewRows::PoolCuts(one, two) => add_by(
+            tx,
+            rows,
+            [one.params(), two.params()].as_flattened(),
+        ),
         NewRows::PoolReturn(row) => add_by(tx, rows, &row.params()),
-        NewRows::PoolReturns(one, two) => {
-            let [a, b, c] = one.params();
-            let [d, e, f] = two.params();
-            add_by(tx, rows, &[a, b, c, d, e, f])
-        }
+        NewRows::PoolReturns(one, two) => add_by(
+            tx,
+            rows,
+            [one.params(), two.params()].as_flattened(),
+        ),
         NewRows::Verdict(row) => add_by(tx, rows, &row.params()),
-        NewRows::Verdicts(one, two) => {
-            let [a, b, c, d, e, f] = one.params();
-            let [g, h, i, j, k, l] = two.params();
-            add_by(tx, rows, &[a, b, c, d, e, f, g, h, i, j, k, l])
-        }
+        NewRows::Verdicts(one, two) => add_by(
+            tx,
+            rows,
+            [one.params(), two.params()].as_flattened(),
+        ),
         NewRows::Version(row) => add_by(tx, rows, &row.params()),
-        NewRows::Versions(one, two) => {
-            let [a, b, c, d, e, f] = one.params();
-            let [g, h, i, j, k, l] = two.params();
-            add_by(tx, rows, &[a, b, c, d, e, f, g, h, i, j, k, l])
-        }
+        NewRows::Versions(one, two) => add_by(
+            tx,
+            rows,
+            [one.params(), two.params()].as_flattened(),
+        ),
         NewRows::Recording(row) => add_by(tx, rows, &row.params()),
-        NewRows::Recordings(one, two) => {
-            let [a, b, c, d] = one.params();
-            let [e, f, g, h] = two.params();
-            add_by(tx, rows, &[a, b, c, d, e, f, g, h])
-        }
+        NewRows::Recordings(one, two) => add_by(
+            tx,
+            rows,
+            [one.params(), two.params()].as_flattened(),
+        ),
         NewRows::Credit(row) => add_by(tx, rows, &row.params()),
-        NewRows::Credits(one, two) => {
-            let [a, b, c, d, e] = one.params();
-            let [f, g, h, i, j] = two.params();
-            add_by(tx, rows, &[a, b, c, d, e, f, g, h, i, j])
-        }
+        NewRows::Credits(one, two) => add_by(tx, rows, [one.params(), two.params()].as_flattened()),
         NewRows::Balance(row) => add_by(tx, rows, &row.params()),
         NewRows::SegmentEnd(row) => add_by(tx, rows, &row.params()),
         NewRows::MechanicalPool(row) => add_by(tx, rows, &row.params()),

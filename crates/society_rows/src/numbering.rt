@@ -7,35 +7,14 @@ ghost use Rattle.society_rows.specs.Effects.{ErrsByMediumOver, OnlyFailsOver};
 ghost use Rattle.society_rows.specs.Layouts.{HasTable};
 ghost use Rattle.society_rows.specs.Reads.{ReadsOver};
 ghost use Rattle.society_rows.specs.Stored.{AreNumbered};
-ghost use Rattle.society_rows.specs.TableNames.{table_called, rowids_text};
+ghost use Rattle.society_rows.specs.TableNames.{table_called};
 ghost use Rattle.society_rows.specs.Between.{within};
 
 use crate::statement::select;
+use crate::tables::shape_of;
 use crate::{RowFault, TableName};
 use sqlite::{Alter, Row, Transaction};
 use sqlite_value::value::ValueRef;
-
-// The query that shows the rowid of every row of a table.
-fn rowids(table: TableName) -> &'static str
-    ensures { result.now ≡ rowids_text table }
-{
-    match table {
-        TableName::Office => "SELECT rowid FROM office",
-        TableName::Transmissions => "SELECT rowid FROM transmissions",
-        TableName::Returns => "SELECT rowid FROM returns",
-        TableName::Pools => "SELECT rowid FROM pools",
-        TableName::PoolCuts => "SELECT rowid FROM pool_cuts",
-        TableName::PoolReturns => "SELECT rowid FROM pool_returns",
-        TableName::Fronts => "SELECT rowid FROM fronts",
-        TableName::Verdicts => "SELECT rowid FROM verdicts",
-        TableName::Versions => "SELECT rowid FROM versions",
-        TableName::Recordings => "SELECT rowid FROM recordings",
-        TableName::Credits => "SELECT rowid FROM credits",
-        TableName::Balances => "SELECT rowid FROM balances",
-        TableName::SegmentEnds => "SELECT rowid FROM segment_ends",
-        TableName::MechanicalPools => "SELECT rowid FROM mechanical_pools",
-    }
-}
 
 // Whether the first value of a row is a whole number.
 fn begins_whole(row: &Row) -> bool
@@ -63,6 +42,6 @@ pub fn are_numbered<S: Alter>(
     ensures err { within S.Store tx.old tx.new (OnlyFailsOver (HasTable table)) result }
     ensures medium { within S.Store tx.old tx.new (ErrsByMediumOver (HasTable table)) result }
 {
-    let rows = select(tx, rowids(table), &[])?;
+    let rows = select(tx, shape_of(table).rowids, &[])?;
     Ok(begin_whole(&rows))
 }

@@ -12,9 +12,29 @@ ghost use Rattle.society_rows.specs.Between.{within};
 use crate::RowFault;
 use crate::new_rows::{NewRows, add};
 use crate::reading::{text, whole};
+use crate::shapes::{Rows, TableShape};
 use sqlite::types::ToSql;
 use sqlite::{Alter, Row, Transaction};
+use sqlite_schema::schema::Kind::{Integer, Text};
 use sqlite_value::value::ValueRef;
+
+/// The table, and the statements over all of it.
+pub(crate) const OFFICE: TableShape<'static> = TableShape {
+    name: "office",
+    columns: &[
+        ("one", Integer),
+        ("layout", Integer),
+        ("society", Integer),
+        ("territory", Integer),
+        ("name", Text),
+    ],
+    rows: Rows::Single,
+    key: &[0],
+    parents: &[],
+    create: "CREATE TABLE office (one INTEGER NOT NULL PRIMARY KEY CHECK (one = 1), layout INTEGER NOT NULL, society INTEGER NOT NULL, territory INTEGER NOT NULL, name TEXT NOT NULL) STRICT",
+    listing: "SELECT one, layout, society, territory, name FROM office ORDER BY one",
+    rowids: "SELECT rowid FROM office",
+};
 
 /// The layout that is written: 3, the book, what is derived from it, where segments end, and pools of mechanical rights.
 pub const LAYOUT: u32 = 3;

@@ -13,9 +13,34 @@ use crate::RowFault;
 use crate::new_rows::NewRows;
 use crate::pairing::{PairedRow, add_all};
 use crate::reading::{text, whole};
+use crate::shapes::{Parent, Rows, TableShape};
 use sqlite::types::ToSql;
 use sqlite::{Alter, Row, Transaction};
+use sqlite_schema::schema::Kind::{Integer, Text};
 use sqlite_value::value::ValueRef;
+
+/// The table, and the statements over all of it.
+pub(crate) const POOL_CUTS: TableShape<'static> = TableShape {
+    name: "pool_cuts",
+    columns: &[("pool", Integer), ("sender", Text), ("number", Integer)],
+    rows: Rows::Keyed,
+    key: &[1, 2],
+    parents: &[
+        Parent {
+            columns: &[1],
+            parent: "pools",
+            parent_columns: &["pool"],
+        },
+        Parent {
+            columns: &[2, 3],
+            parent: "transmissions",
+            parent_columns: &["sender", "number"],
+        },
+    ],
+    create: "CREATE TABLE pool_cuts (pool INTEGER NOT NULL, sender TEXT NOT NULL, number INTEGER NOT NULL, PRIMARY KEY (pool, sender), FOREIGN KEY (pool) REFERENCES pools (pool), FOREIGN KEY (sender, number) REFERENCES transmissions (sender, number)) STRICT",
+    listing: "SELECT pool, sender, number FROM pool_cuts ORDER BY pool, sender, number",
+    rowids: "SELECT rowid FROM pool_cuts",
+};
 
 /// How far a pool goes for a sender: the number of the last transmission that counts.
 #[derive(Clone, Copy, Debug)]

@@ -13,9 +13,34 @@ use crate::RowFault;
 use crate::new_rows::NewRows;
 use crate::pairing::{PairedRow, add_all};
 use crate::reading::{text, whole};
+use crate::shapes::{Parent, Rows, TableShape};
 use sqlite::types::ToSql;
 use sqlite::{Alter, Row, Transaction};
+use sqlite_schema::schema::Kind::{Integer, Text};
 use sqlite_value::value::ValueRef;
+
+/// The table, and the statements over all of it.
+pub(crate) const POOL_RETURNS: TableShape<'static> = TableShape {
+    name: "pool_returns",
+    columns: &[("reporter", Text), ("number", Integer), ("pool", Integer)],
+    rows: Rows::Keyed,
+    key: &[1, 2],
+    parents: &[
+        Parent {
+            columns: &[1, 2],
+            parent: "returns",
+            parent_columns: &["reporter", "number"],
+        },
+        Parent {
+            columns: &[3],
+            parent: "pools",
+            parent_columns: &["pool"],
+        },
+    ],
+    create: "CREATE TABLE pool_returns (reporter TEXT NOT NULL, number INTEGER NOT NULL, pool INTEGER NOT NULL, PRIMARY KEY (reporter, number), FOREIGN KEY (reporter, number) REFERENCES returns (reporter, number), FOREIGN KEY (pool) REFERENCES pools (pool)) STRICT",
+    listing: "SELECT reporter, number, pool FROM pool_returns ORDER BY reporter, number, pool",
+    rowids: "SELECT rowid FROM pool_returns",
+};
 
 /// Which pool pays a return.
 #[derive(Clone, Copy, Debug)]

@@ -13,9 +13,23 @@ ghost use Rattle.society_rows.specs.Between.{within};
 use crate::RowFault;
 use crate::new_rows::{NewRows, add};
 use crate::reading::{integer, whole};
+use crate::shapes::{Rows, TableShape};
 use sqlite::types::ToSql;
 use sqlite::{Alter, Row, Transaction};
+use sqlite_schema::schema::Kind::Integer;
 use sqlite_value::value::ValueRef;
+
+/// The table, and the statements over all of it.
+pub(crate) const POOLS: TableShape<'static> = TableShape {
+    name: "pools",
+    columns: &[("pool", Integer), ("amount", Integer)],
+    rows: Rows::Numbered,
+    key: &[0],
+    parents: &[],
+    create: "CREATE TABLE pools (pool INTEGER NOT NULL PRIMARY KEY, amount INTEGER NOT NULL) STRICT",
+    listing: "SELECT pool, amount FROM pools ORDER BY pool",
+    rowids: "SELECT rowid FROM pools",
+};
 
 /// A pool: its number and its amount in units of money.
 #[derive(Clone, Copy, Debug)]

@@ -8,7 +8,7 @@ ghost use Rattle.society_rows.specs.Reads.{Reads};
 ghost use Rattle.society_rows.specs.Between.{between, within};
 
 use crate::statement::select;
-use crate::tables::listing;
+use crate::tables::shape_of;
 use crate::{Idle, RowFault, TableName};
 use sqlite::types::ToSql;
 use sqlite::{Alter, Row, Transaction};
@@ -66,7 +66,7 @@ fn query_of(question: Question<'_>) -> &'static str
     ensures { result.now ≡ question_text question.entry }
 {
     match question {
-        Question::Office => listing(TableName::Office),
+        Question::Office => shape_of(TableName::Office).listing,
         Question::Front(_) => {
             "SELECT sender, front, works FROM fronts WHERE sender = ?1 ORDER BY sender"
         }

@@ -5,7 +5,7 @@ ghost use Rattle.society_rows.specs.Layouts.{HasOlder};
 ghost use Rattle.society_rows.specs.Raising.{BecomesNewest, Renames};
 ghost use Rattle.society_rows.specs.Between.{within};
 
-use crate::layout::{TABLES, make_tables};
+use crate::layout::make_tables;
 use crate::office::LAYOUT;
 use crate::statement::run;
 use crate::{OlderLayout, RowFault};
@@ -34,6 +34,6 @@ pub fn raise_inside<S: Alter>(
     ensures err { within S.Store tx.old tx.new (OnlyFailsInside (HasOlder from)) result }
     ensures blamed { within S.Store tx.old tx.new (BlamesMediumOver (HasOlder from)) result }
 {
-    make_tables(tx, &TABLES, from.table_count())?;
+    make_tables(tx, from.table_count())?;
     rename(tx)
 }

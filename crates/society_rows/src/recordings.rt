@@ -14,9 +14,28 @@ ghost use Rattle.society_rows.specs.Between.{within};
 use crate::new_rows::NewRows;
 use crate::pairing::{PairedRow, add_all};
 use crate::reading::{integer, text};
+use crate::shapes::{Rows, TableShape};
 use crate::{Question, RowFault, answer};
 use sqlite::{Alter, Row, Transaction};
+use sqlite_schema::schema::Kind::{Integer, Text};
 use sqlite_value::value::ValueRef;
+
+/// The table, and the statements over all of it.
+pub(crate) const RECORDINGS: TableShape<'static> = TableShape {
+    name: "recordings",
+    columns: &[
+        ("sender", Text),
+        ("work", Text),
+        ("revision", Integer),
+        ("isrc", Text),
+    ],
+    rows: Rows::Keyed,
+    key: &[1, 2, 3, 4],
+    parents: &[],
+    create: "CREATE TABLE recordings (sender TEXT NOT NULL, work TEXT NOT NULL, revision INTEGER NOT NULL, isrc TEXT NOT NULL, PRIMARY KEY (sender, work, revision, isrc)) STRICT",
+    listing: "SELECT sender, work, revision, isrc FROM recordings ORDER BY sender, work, revision, isrc",
+    rowids: "SELECT rowid FROM recordings",
+};
 
 /// A recording of a version of a work: its ISRC.
 #[derive(Clone, Copy, Debug)]

@@ -12,9 +12,23 @@ ghost use Rattle.society_rows.specs.Between.{within};
 use crate::RowFault;
 use crate::new_rows::{NewRows, add};
 use crate::reading::{bytes, text, whole};
+use crate::shapes::{Rows, TableShape};
 use sqlite::types::ToSql;
 use sqlite::{Alter, Row, Transaction};
+use sqlite_schema::schema::Kind::{Blob, Integer, Text};
 use sqlite_value::value::ValueRef;
+
+/// The table, and the statements over all of it.
+pub(crate) const RETURNS: TableShape<'static> = TableShape {
+    name: "returns",
+    columns: &[("reporter", Text), ("number", Integer), ("body", Blob)],
+    rows: Rows::Keyed,
+    key: &[1, 2],
+    parents: &[],
+    create: "CREATE TABLE returns (reporter TEXT NOT NULL, number INTEGER NOT NULL, body BLOB NOT NULL, PRIMARY KEY (reporter, number)) STRICT",
+    listing: "SELECT reporter, number, body FROM returns ORDER BY reporter, number",
+    rowids: "SELECT rowid FROM returns",
+};
 
 /// A performance return: its reporter, its number, and the bytes of its file.
 #[derive(Clone, Copy, Debug)]

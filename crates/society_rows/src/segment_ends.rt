@@ -15,10 +15,29 @@ ghost use Rattle.work_ids.specs.Segments.{index_of};
 use crate::RowFault;
 use crate::new_rows::{NewRows, add};
 use crate::reading::{segment, text, whole};
+use crate::shapes::{Rows, TableShape};
 use sqlite::types::ToSql;
 use sqlite::{Alter, Row, Transaction};
+use sqlite_schema::schema::Kind::{Integer, Text};
 use sqlite_value::value::ValueRef;
 use work_ids::Segment;
+
+/// The table, and the statements over all of it.
+pub(crate) const SEGMENT_ENDS: TableShape<'static> = TableShape {
+    name: "segment_ends",
+    columns: &[
+        ("sender", Text),
+        ("segment", Integer),
+        ("last", Integer),
+        ("next", Integer),
+    ],
+    rows: Rows::Keyed,
+    key: &[1, 2],
+    parents: &[],
+    create: "CREATE TABLE segment_ends (sender TEXT NOT NULL, segment INTEGER NOT NULL, last INTEGER NOT NULL, next INTEGER NOT NULL, PRIMARY KEY (sender, segment)) STRICT",
+    listing: "SELECT sender, segment, last, next FROM segment_ends ORDER BY sender, segment, last, next",
+    rowids: "SELECT rowid FROM segment_ends",
+};
 
 /// Where a segment of a sender's numbers ends: its last number, and the year whose numbers come next. The column of a segment is -1 of the
 /// plain one, and the year of any other.

@@ -1,12 +1,12 @@
 //! Whether what a schema has is what layout 3 has.
-ghost use Rattle.std.specs.Prelude.{◌≡◌, ◌≢◌, ◌↔◌, ℕ, List, [], ◌∷◌, map, pos, if◌then◌else◌, slice_index_or, true, IsTrue, MatchOption};
+ghost use Rattle.std.specs.Prelude.{◌≡◌, ◌≢◌, ◌↔◌, ◌<◌, ◌-◌, ℕ, List, [], ◌∷◌, ◌++◌, map, pos, if◌then◌else◌, slice_index_or, true, IsTrue, MatchOption};
 ghost use Rattle.std.specs.Borrow.{Bor};
 ghost use Rattle.sqlite_value.specs.Keys.{plain};
 ghost use Rattle.sqlite_value.specs.declared.value.Value.TheVariants.{Null, Int};
 ghost use Rattle.sqlite_schema.specs.declared.schema.Kind.{Kind};
 ghost use Rattle.sqlite_schema.specs.Code.{term_in};
 ghost use Rattle.society_rows.specs.Layout.{column_of, keyed_table, numbered_table};
-ghost use Rattle.society_rows.specs.Shapes.{columns_named, guard_shaped, refers_to, table_shaped};
+ghost use Rattle.society_rows.specs.Shapes.{columns_named, is_guarded, guard_name, guard_shaped, in_order, references_of, refers_to, table_shaped};
 ghost use Rattle.society_rows.specs.Finding.{is_one, is_same};
 
 use sqlite_items::Items;
@@ -35,18 +35,31 @@ pub(crate) enum Rows {
     Keyed,
 }
 
-/// A table as its statement makes it.
+/// A table as its statement makes it, and the statements over all of it.
 #[derive(Clone, Copy, Debug)]
 pub(crate) struct TableShape<'a> {
     pub(crate) name: &'a str,
-    /// Its tree; the index for its key has the next one.
-    pub(crate) tree: u32,
     pub(crate) columns: &'a [(&'a str, Kind)],
     pub(crate) rows: Rows,
     /// The places of its key: the columns from 1, or 0 for the rowid.
     pub(crate) key: &'a [usize],
-    /// The index for its key.
-    pub(crate) guard: &'a str,
+    /// What it refers to.
+    pub(crate) parents: &'a [Parent<'a>],
+    /// What makes it, where those that it refers to are there.
+    pub(crate) create: &'a str,
+    /// The query that shows all rows, by their key; by all their columns where two rows of one key could not be told apart else.
+    pub(crate) listing: &'a str,
+    /// The query that shows the rowid of every row.
+    pub(crate) rowids: &'a str,
+}
+
+impl TableShape<'_> {
+    /// Whether its rows are under a key of their columns, for which there is an index.
+    pub(crate) fn is_guarded(&self) -> bool
+        ensures { result ≡ is_guarded self.now.rows }
+    {
+        matches!(self.rows, Rows::Keyed)
+    }
 }
 
 // Whether a column has this name, holds this kind of value and no NULL, and has no default.
@@ -112,16 +125,25 @@ fn is_reference(reference: &Reference, form: &Parent<'_>) -> bool
         && !reference.is_deferred
 }
 
-// Whether references are these, in their order.
-#[tactic(auto, using(crate::proofs::lemmas::readings::Alike::alike_more))]
-fn are_references(references: &[Reference], forms: &[Parent<'_>]) -> bool
-    ensures { IsTrue result ↔ (references.now ≡ map refers_to forms.now) }
+// Where what stands at a place of several stands, where they may be turned from the last to the first.
+fn place_in(count: usize, at: usize, turned: bool) -> usize
+    requires { at < count }
+    ensures { result ≡ (if turned then count - 1 - at else at) }
 {
-    if references.len() != forms.len() {
+    if turned { count - 1 - at } else { at }
+}
+
+// Whether references are to these parents, in their order, or where they are turned from the last to the first.
+#[tactic(auto, using(crate::proofs::lemmas::readings::Alike::turned_more))]
+fn are_references(references: &[Reference], parents: &[Parent<'_>], turned: bool) -> bool
+    ensures { IsTrue result ↔ (references.now ≡ in_order turned (map refers_to parents.now)) }
+{
+    if references.len() != parents.len() {
         return false;
     }
-    for at in 0..forms.len() {
-        if !is_reference(&references[at], &forms[at]) {
+    for at in 0..parents.len() {
+        let place = place_in(parents.len(), at, turned);
+        if !is_reference(&references[at], &parents[place]) {
             return false;
         }
     }
@@ -230,27 +252,27 @@ fn is_only_one(terms: &Terms) -> bool
     }
 }
 
-// Whether a table is under a key of its own columns, is of a shape, and has these references.
-fn is_keyed(table: &Table, shape: &TableShape<'_>, parents: &[Parent<'_>]) -> bool
-    ensures { IsTrue result ↔ (table.now ≡ keyed_table shape.now.name.now shape.now.tree (columns_named shape.now.columns.now) shape.now.key.now (map refers_to parents.now)) }
+// Whether a table is under a key of its own columns, is of a shape, and has this tree; its references may be turned.
+fn is_keyed(table: &Table, shape: &TableShape<'_>, tree: usize, turned: bool) -> bool
+    ensures { IsTrue result ↔ (table.now ≡ keyed_table shape.now.name.now tree (columns_named shape.now.columns.now) shape.now.key.now (references_of shape.now turned)) }
 {
     table.name.as_slice() == shape.name.as_bytes()
-        && table.tree == shape.tree
+        && table.tree as usize == tree
         && are_columns(table.columns.as_slice(), shape.columns)
         && table.key.is_none()
         && table.primary.as_slice() == shape.key
         && is_only_key(table.uniques.as_slice(), shape.key)
         && is_only_plain(table.orders.as_slice())
         && is_no_term(&table.checks)
-        && are_references(table.references.as_slice(), parents)
+        && are_references(table.references.as_slice(), shape.parents, turned)
         && table.computed.is_empty()
         && is_unstamped(&table.stamps)
         && !table.is_counted
 }
 
-// Whether a table's first column is its rowid, which has to be 1 where the table is for one row, and it is of a shape and has these references.
-fn is_numbered(table: &Table, shape: &TableShape<'_>, one: bool, parents: &[Parent<'_>]) -> bool
-    ensures { IsTrue result ↔ (table.now ≡ numbered_table shape.now.name.now shape.now.tree (columns_named shape.now.columns.now) (if one then is_one ∷ [] else []) (map refers_to parents.now)) }
+// Whether a table's first column is its rowid, which has to be 1 where the table is for one row, and it is of a shape and has this tree.
+fn is_numbered(table: &Table, shape: &TableShape<'_>, one: bool, tree: usize, turned: bool) -> bool
+    ensures { IsTrue result ↔ (table.now ≡ numbered_table shape.now.name.now tree (columns_named shape.now.columns.now) (if one then is_one ∷ [] else []) (references_of shape.now turned)) }
 {
     let checked = if one {
         is_only_one(&table.checks)
@@ -259,37 +281,58 @@ fn is_numbered(table: &Table, shape: &TableShape<'_>, one: bool, parents: &[Pare
     };
     checked
         && table.name.as_slice() == shape.name.as_bytes()
-        && table.tree == shape.tree
+        && table.tree as usize == tree
         && are_columns(table.columns.as_slice(), shape.columns)
         && table.key == Some(0)
         && table.primary.as_slice() == [0].as_slice()
         && table.uniques.is_empty()
         && table.orders.is_empty()
-        && are_references(table.references.as_slice(), parents)
+        && are_references(table.references.as_slice(), shape.parents, turned)
         && table.computed.is_empty()
         && is_unstamped(&table.stamps)
         && !table.is_counted
 }
 
-/// Whether a table is of a shape, and has these references.
-pub(crate) fn is_table(table: &Table, shape: &TableShape<'_>, parents: &[Parent<'_>]) -> bool
-    ensures { IsTrue result ↔ (table.now ≡ table_shaped shape.now (map refers_to parents.now)) }
+/// Whether a table is of a shape, and has this tree; its references are those of the shape, from the last to the first where they are turned.
+pub(crate) fn is_table(table: &Table, shape: &TableShape<'_>, tree: usize, turned: bool) -> bool
+    ensures { IsTrue result ↔ (table.now ≡ table_shaped shape.now tree (references_of shape.now turned)) }
 {
     match shape.rows {
-        Rows::Single => is_numbered(table, shape, true, parents),
-        Rows::Numbered => is_numbered(table, shape, false, parents),
-        Rows::Keyed => is_keyed(table, shape, parents),
+        Rows::Single => is_numbered(table, shape, true, tree, turned),
+        Rows::Numbered => is_numbered(table, shape, false, tree, turned),
+        Rows::Keyed => is_keyed(table, shape, tree, turned),
     }
 }
 
-/// Whether an index is the one that SQLite makes for the key of a table of a shape.
-pub(crate) fn is_guard(index: &Index, shape: &TableShape<'_>) -> bool
-    ensures { IsTrue result ↔ (index.now ≡ guard_shaped shape.now) }
+// What is behind these first bytes.
+fn rest_behind<'a>(bytes: &'a [u8], first: &[u8]) -> Option<&'a [u8]>
+    ensures { MatchOption result ((rest : List ℕ) → bytes.now ≢ first.now ++ rest) (λ rest. bytes.now ≡ first.now ++ rest.now) }
 {
-    index.name.as_slice() == shape.guard.as_bytes()
-        && index.tree > shape.tree
-        && index.tree - shape.tree == 1
-        && index.table == shape.tree
+    bytes.strip_prefix(first)
+}
+
+// Whether a name is the one that SQLite gives to the index for the key of a table.
+#[tactic(auto, unfolding(sqlite_tied::specs::Compute::everything))]
+fn is_guard_name(name: &[u8], table: &str) -> bool
+    ensures { IsTrue result ↔ (name.now ≡ guard_name table.now) }
+{
+    match rest_behind(name, b"sqlite_autoindex_") {
+        Some(rest) => match rest_behind(rest, table.as_bytes()) {
+            Some(last) => last == b"_1".as_slice(),
+            None => false,
+        },
+        None => false,
+    }
+}
+
+/// Whether an index is the one that SQLite makes for the key of a table of a shape, which has this tree.
+pub(crate) fn is_guard(index: &Index, shape: &TableShape<'_>, tree: usize) -> bool
+    ensures { IsTrue result ↔ (index.now ≡ guard_shaped shape.now tree) }
+{
+    is_guard_name(index.name.as_slice(), shape.name)
+        && index.tree as usize > tree
+        && index.tree as usize - tree == 1
+        && index.table as usize == tree
         && index.columns.as_slice() == shape.key
         && index.order == Order::PLAIN
         && index.is_unique

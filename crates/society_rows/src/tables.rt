@@ -1,14 +1,34 @@
-//! The tables by name, and the query that shows all rows of each.
-ghost use Rattle.std.specs.Prelude.{◌≡◌};
+//! The tables by name, and all rows of each.
+ghost use Rattle.std.specs.Prelude.{◌≡◌, ◌<◌, ◌+◌, ℕ, List, get_or, map};
+ghost use Rattle.sqlite_catalog.specs.Change.{automatics};
+ghost use Rattle.sqlite_schema.specs.declared.schema.Reference.{Reference};
 ghost use Rattle.society_rows.specs.Effects.{ErrsByMediumOver, OnlyFailsOver};
+ghost use Rattle.society_rows.specs.Layout.{all_names, table_called, table_with};
 ghost use Rattle.society_rows.specs.Layouts.{HasTable};
 ghost use Rattle.society_rows.specs.Listings.{ListsAll};
 ghost use Rattle.society_rows.specs.Reads.{ReadsOver};
-ghost use Rattle.society_rows.specs.TableNames.{listing_text};
+ghost use Rattle.society_rows.specs.Shapes.{guards_shaped, refers_to, table_shaped};
+ghost use Rattle.society_rows.specs.TableNames.{create_text, listing_text, rowids_text};
+ghost use Rattle.society_rows.specs.declared.tables.TableName.TheVariants.{Office};
 ghost use Rattle.society_rows.specs.Between.{within};
 
 use crate::RowFault;
+use crate::balances::BALANCES;
+use crate::credits::CREDITS;
+use crate::fronts::FRONTS;
+use crate::mechanical_pools::MECHANICAL_POOLS;
+use crate::office::OFFICE;
+use crate::pool_cuts::POOL_CUTS;
+use crate::pool_returns::POOL_RETURNS;
+use crate::pools::POOLS;
+use crate::recordings::RECORDINGS;
+use crate::returns::RETURNS;
+use crate::segment_ends::SEGMENT_ENDS;
+use crate::shapes::TableShape;
 use crate::statement::select;
+use crate::transmissions::TRANSMISSIONS;
+use crate::verdicts::VERDICTS;
+use crate::versions::VERSIONS;
 use sqlite::{Alter, Row, Transaction};
 
 /// The tables of layout 3.
@@ -30,45 +50,60 @@ pub enum TableName {
     MechanicalPools,
 }
 
-/// The query that shows all rows of a table, by its key; by all its columns where two rows of one key could not be told apart else.
-pub(crate) fn listing(table: TableName) -> &'static str
-    ensures { result.now ≡ listing_text table }
+/// The tables, in the order in which they are made.
+const ALL: [TableName; 14] = [
+    TableName::Office,
+    TableName::Transmissions,
+    TableName::Returns,
+    TableName::Pools,
+    TableName::PoolCuts,
+    TableName::PoolReturns,
+    TableName::Fronts,
+    TableName::Verdicts,
+    TableName::Versions,
+    TableName::Recordings,
+    TableName::Credits,
+    TableName::Balances,
+    TableName::SegmentEnds,
+    TableName::MechanicalPools,
+];
+
+/// How many tables layout 3 has.
+pub(crate) const TABLE_COUNT: usize = ALL.len();
+
+/// The table that is made at this place.
+pub(crate) fn name_at(at: usize) -> TableName
+    requires { at < 14 }
+    ensures { result ≡ get_or all_names at Office }
 {
-    match table {
-        TableName::Office => {
-            "SELECT one, layout, society, territory, name FROM office ORDER BY one"
-        }
-        TableName::Transmissions => {
-            "SELECT sender, number, body FROM transmissions ORDER BY sender, number"
-        }
-        TableName::Returns => {
-            "SELECT reporter, number, body FROM returns ORDER BY reporter, number"
-        }
-        TableName::Pools => { "SELECT pool, amount FROM pools ORDER BY pool" }
-        TableName::PoolCuts => {
-            "SELECT pool, sender, number FROM pool_cuts ORDER BY pool, sender, number"
-        }
-        TableName::PoolReturns => {
-            "SELECT reporter, number, pool FROM pool_returns ORDER BY reporter, number, pool"
-        }
-        TableName::Fronts => { "SELECT sender, front, works FROM fronts ORDER BY sender" }
-        TableName::Verdicts => {
-            "SELECT sender, number, place, fault, ordinal, revision FROM verdicts ORDER BY sender, number, place, fault, ordinal, revision"
-        }
-        TableName::Versions => {
-            "SELECT sender, work, revision, number, place, ordinal FROM versions ORDER BY sender, work, revision, number, place, ordinal"
-        }
-        TableName::Recordings => {
-            "SELECT sender, work, revision, isrc FROM recordings ORDER BY sender, work, revision, isrc"
-        }
-        TableName::Credits => {
-            "SELECT pool, line, isrc, account, units FROM credits ORDER BY pool, line"
-        }
-        TableName::Balances => { "SELECT account, units FROM balances ORDER BY account" }
-        TableName::SegmentEnds => {
-            "SELECT sender, segment, last, next FROM segment_ends ORDER BY sender, segment, last, next"
-        }
-        TableName::MechanicalPools => { "SELECT pool FROM mechanical_pools ORDER BY pool" }
+    ALL[at]
+}
+
+/// The table of a name.
+#[tactic(auto, unfolding(crate::specs::Layout::written_out))]
+pub(crate) fn shape_of(name: TableName) -> TableShape<'static>
+    ensures table { (tree : ℕ) (references : List Reference) → table_shaped result tree references ≡ record (table_called name) { tree = tree; references = references } }
+    ensures parents { map refers_to result.parents.now ≡ (table_called name).references }
+    ensures guards { (cuts payments : List Reference) (tree : ℕ) → automatics (record (table_with cuts payments name) { tree = tree }) 0 (tree + 1) (table_with cuts payments name).uniques ≡ guards_shaped result tree }
+    ensures create { result.create.now ≡ create_text name }
+    ensures listing { result.listing.now ≡ listing_text name }
+    ensures rowids { result.rowids.now ≡ rowids_text name }
+{
+    match name {
+        TableName::Office => OFFICE,
+        TableName::Transmissions => TRANSMISSIONS,
+        TableName::Returns => RETURNS,
+        TableName::Pools => POOLS,
+        TableName::PoolCuts => POOL_CUTS,
+        TableName::PoolReturns => POOL_RETURNS,
+        TableName::Fronts => FRONTS,
+        TableName::Verdicts => VERDICTS,
+        TableName::Versions => VERSIONS,
+        TableName::Recordings => RECORDINGS,
+        TableName::Credits => CREDITS,
+        TableName::Balances => BALANCES,
+        TableName::SegmentEnds => SEGMENT_ENDS,
+        TableName::MechanicalPools => MECHANICAL_POOLS,
     }
 }
 
@@ -84,5 +119,5 @@ pub fn all_rows<S: Alter>(
     ensures err { within S.Store tx.old tx.new (OnlyFailsOver (HasTable table)) result }
     ensures medium { within S.Store tx.old tx.new (ErrsByMediumOver (HasTable table)) result }
 {
-    select(tx, listing(table), &[])
+    select(tx, shape_of(table).listing, &[])
 }

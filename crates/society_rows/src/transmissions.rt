@@ -13,9 +13,23 @@ use crate::RowFault;
 use crate::new_rows::{NewRows, add};
 use crate::pairing::{PairedRow, add_all};
 use crate::reading::{bytes, text, whole};
+use crate::shapes::{Rows, TableShape};
 use sqlite::types::ToSql;
 use sqlite::{Alter, Row, Transaction};
+use sqlite_schema::schema::Kind::{Blob, Integer, Text};
 use sqlite_value::value::ValueRef;
+
+/// The table, and the statements over all of it.
+pub(crate) const TRANSMISSIONS: TableShape<'static> = TableShape {
+    name: "transmissions",
+    columns: &[("sender", Text), ("number", Integer), ("body", Blob)],
+    rows: Rows::Keyed,
+    key: &[1, 2],
+    parents: &[],
+    create: "CREATE TABLE transmissions (sender TEXT NOT NULL, number INTEGER NOT NULL, body BLOB NOT NULL, PRIMARY KEY (sender, number)) STRICT",
+    listing: "SELECT sender, number, body FROM transmissions ORDER BY sender, number",
+    rowids: "SELECT rowid FROM transmissions",
+};
 
 /// A transmission: its sender key, its number, and the bytes of its file.
 #[derive(Clone, Copy, Debug)]

@@ -13,9 +13,30 @@ use crate::RowFault;
 use crate::new_rows::NewRows;
 use crate::pairing::{PairedRow, add_all};
 use crate::reading::{integer, text, whole};
+use crate::shapes::{Rows, TableShape};
 use sqlite::types::ToSql;
 use sqlite::{Alter, Row, Transaction};
+use sqlite_schema::schema::Kind::{Integer, Text};
 use sqlite_value::value::ValueRef;
+
+/// The table, and the statements over all of it.
+pub(crate) const VERDICTS: TableShape<'static> = TableShape {
+    name: "verdicts",
+    columns: &[
+        ("sender", Text),
+        ("number", Integer),
+        ("place", Integer),
+        ("fault", Integer),
+        ("ordinal", Integer),
+        ("revision", Integer),
+    ],
+    rows: Rows::Keyed,
+    key: &[1, 2, 3],
+    parents: &[],
+    create: "CREATE TABLE verdicts (sender TEXT NOT NULL, number INTEGER NOT NULL, place INTEGER NOT NULL, fault INTEGER NOT NULL, ordinal INTEGER NOT NULL, revision INTEGER NOT NULL, PRIMARY KEY (sender, number, place)) STRICT",
+    listing: "SELECT sender, number, place, fault, ordinal, revision FROM verdicts ORDER BY sender, number, place, fault, ordinal, revision",
+    rowids: "SELECT rowid FROM verdicts",
+};
 
 /// What a transaction was answered: fault 0 is accepted; ordinal and revision are 0 where it was rejected.
 #[derive(Clone, Copy, Debug)]

@@ -13,9 +13,30 @@ use crate::RowFault;
 use crate::new_rows::NewRows;
 use crate::pairing::{PairedRow, add_all};
 use crate::reading::{integer, text, whole};
+use crate::shapes::{Rows, TableShape};
 use sqlite::types::ToSql;
 use sqlite::{Alter, Row, Transaction};
+use sqlite_schema::schema::Kind::{Integer, Text};
 use sqlite_value::value::ValueRef;
+
+/// The table, and the statements over all of it.
+pub(crate) const VERSIONS: TableShape<'static> = TableShape {
+    name: "versions",
+    columns: &[
+        ("sender", Text),
+        ("work", Text),
+        ("revision", Integer),
+        ("number", Integer),
+        ("place", Integer),
+        ("ordinal", Integer),
+    ],
+    rows: Rows::Keyed,
+    key: &[1, 2, 3],
+    parents: &[],
+    create: "CREATE TABLE versions (sender TEXT NOT NULL, work TEXT NOT NULL, revision INTEGER NOT NULL, number INTEGER NOT NULL, place INTEGER NOT NULL, ordinal INTEGER NOT NULL, PRIMARY KEY (sender, work, revision)) STRICT",
+    listing: "SELECT sender, work, revision, number, place, ordinal FROM versions ORDER BY sender, work, revision, number, place, ordinal",
+    rowids: "SELECT rowid FROM versions",
+};
 
 /// A version of a work: where its transaction stands, and its work's ordinal.
 #[derive(Clone, Copy, Debug)]

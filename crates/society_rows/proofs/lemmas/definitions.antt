@@ -2,6 +2,7 @@
 pub mod Booleans
 pub mod Creates
 pub mod FirstTables
+pub mod Laid
 pub mod LayoutAlone
 pub mod Missing
 pub mod NewBooks

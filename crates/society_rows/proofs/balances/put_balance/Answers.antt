@@ -22,6 +22,7 @@ returns-clause-written g c =
     (λ count. puts (settled name.Balances) (λ cuts payments. refl) (balance_put row) old new count)
 
 pub returns-clause-err : goal.returns-clause-err
+unfolding written_out
 returns-clause-err g c =
     let row = c.args.row.now in
     let old = state g.S.Store c.args.tx.now.conn.now in

@@ -23,6 +23,7 @@ returns-clause-written g c =
     (λ count. puts (settled name.Fronts) (λ cuts payments. refl) (front_put row) old new count)
 
 pub returns-clause-err : goal.returns-clause-err
+unfolding written_out
 returns-clause-err g c =
     let row = c.args.row.now in
     let old = state g.S.Store c.args.tx.now.conn.now in
@@ -31,6 +32,7 @@ returns-clause-err g c =
     (insert_or_codes put_front_text (settled name.Fronts) (front_put row).is (front_values row) refl old new)
 
 pub returns-clause-blamed : goal.returns-clause-blamed
+unfolding written_out
 returns-clause-blamed g c =
     let row = c.args.row.now in
     let old = state g.S.Store c.args.tx.now.conn.now in

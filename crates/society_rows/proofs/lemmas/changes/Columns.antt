@@ -1,5 +1,8 @@
 -- A row is the list of its columns.
-use Rattle.std.proofs.Common.{◌≡◌, ℕ, [], ◌∷◌, length, map, refl}
+use Rattle.std.proofs.Common.{◌≡◌, ◌∙◌, ℕ, List, [], ◌∷◌, ◌++◌, length, map, refl, ap}
+use Rattle.std.proofs.lemmas.List.{map-append}
+use Rattle.sqlite_value.specs.declared.value.ValueRef.{ValueRef}
+use Rattle.sqlite.specs.Values.{bound}
 use Rattle.std.specs.List.{range_with_len}
 use Rattle.std.proofs.lemmas.Int.{to_z-of_z}
 use Rattle.std.proofs.lemmas.List.FromFn.{fill_by_all}
@@ -29,3 +32,8 @@ columns_6 r = columns_are r 6
 
 -- what makes a row of its columns
 pub ruleset row_columns = (columns_1, columns_2, columns_3, columns_4, columns_5, columns_6, to_z-of_z)
+
+-- the values of two rows, one after the other
+pub bound_pair : (values one two : List ValueRef) (first second : Row) → values ≡ one ++ (two ++ []) → bound one ≡ first → bound two ≡ second → bound values ≡ first ++ (second ++ [])
+bound_pair values one two first second are is then =
+    ap bound are ∙ map-append _ one (two ++ []) ∙ (λ i. is i ++ (map-append _ two [] ∙ (λ j. then j ++ [])) i)

@@ -1,15 +1,18 @@
 -- Which tables a database has of which the first ones are known.
-use Rattle.std.proofs.Common.{◌≡◌, ◌⊎◌, ◌∙◌, ℕ, zero, suc, ◌≤◌, List, [], ◌∷◌, ◌++◌, length, take, drop, reverse, inl, inr, refl, sym, ap, subst, lit≤, arith, append-nil, append_assoc}
+use Rattle.std.proofs.Common.{◌≡◌, ◌⊎◌, ◌∙◌, ℕ, zero, suc, ◌+◌, ◌-◌, ◌<◌, ◌≤◌, List, [], ◌∷◌, ◌++◌, length, get_or, map, filter, nat_lt, take, drop, reverse, inl, inr, refl, sym, ap, subst, lit≤, arith, append-nil, append_assoc}
 use Rattle.std.specs.List.{AllByRecursion, fold}
-use Rattle.std.proofs.lemmas.List.{length-take-le, take-take, take-append-drop}
+use Rattle.std.specs.List.{range_with_len}
+use Rattle.std.proofs.lemmas.List.FromFn.{get_or-map-range_with_len}
+use Rattle.std.proofs.lemmas.List.{get_or-map, length-take-le, take-take, take-append-drop, take_more}
+use Rattle.sqlite_schema.specs.declared.schema.Index.{Index}
 use Rattle.sqlite_schema.specs.declared.schema.Reference.{Reference}
 use Rattle.sqlite_schema.specs.declared.schema.Schema.{Schema}
 use Rattle.sqlite_schema.specs.declared.schema.Table.{Table}
-use Rattle.sqlite_catalog.specs.Change.{created, next_tree}
+use Rattle.sqlite_catalog.specs.Change.{automatics, created, next_tree}
 use Rattle.sqlite.specs.Effect.{Database}
 use Rattle.society_rows.specs.declared.tables.TableName.{TableName}
 use Rattle.society_rows.specs.declared.tables.TableName.TheVariants as name
-use Rattle.society_rows.specs.Layout.{all_tables, pool_cuts, pool_returns, written_out, no_schema, tables_with}
+use Rattle.society_rows.specs.Layout.{all_names, all_tables, office, pool_cuts, pool_returns, written_out, no_schema, table_called, table_with, tables_with}
 use Rattle.society_rows.specs.Layouts.{HasFirst, IsFirst, IsFirstWith, HasTable, HasTables, schema_to, first_table_count}
 use Rattle.society_rows.specs.Stored.{HasLayout}
 
@@ -39,11 +42,30 @@ views_to schema (t ∷ ts) (suc n) = views_to (created schema t) ts n
 pub tables_are : (count : ℕ) (cuts payments : List Reference) → (schema_to count cuts payments).tables ≡ take count (tables_with cuts payments)
 tables_are count cuts payments = tables_to no_schema (tables_with cuts payments) count (all_placed cuts payments)
 
--- a schema whose tables are these, and which has no view
-made_of : (schema : Schema) (tables : List Table) → schema.tables ≡ tables → schema.views ≡ [] → schema ≡ record { tables = tables; indexes = schema.indexes; views = [] }
-made_of schema tables are none =
-    ap (λ (ts : List Table). let s : Schema = record schema { tables = ts } in s) are
-    ∙ ap (λ vs. let s : Schema = record { tables = tables; indexes = schema.indexes; views = vs } in s) none
+-- the indexes for the keys of tables
+abbrev pub guards_of : List Table → List Index
+guards_of [] = []
+guards_of (t ∷ ts) = automatics t 0 (t.tree + 1) t.uniques ++ guards_of ts
+
+indexes_to : (schema : Schema) (ts : List Table) (count : ℕ) → AllPlaced schema ts → (fold created schema (take count ts)).indexes ≡ schema.indexes ++ guards_of (take count ts)
+indexes_to schema ts zero all = sym (append-nil schema.indexes)
+indexes_to schema [] (suc n) all = sym (append-nil schema.indexes)
+indexes_to schema (t ∷ ts) (suc n) all =
+    let placed : Table = record t { tree = next_tree schema } in
+    let is : placed ≡ t = ap (λ (at : ℕ). let x : Table = record t { tree = at } in x) (sym all.0) in
+    let guards = λ (x : Table). automatics x 0 (x.tree + 1) x.uniques in
+    indexes_to (created schema t) ts n all.1 ∙ ap (λ x. (schema.indexes ++ guards x) ++ guards_of (take n ts)) is ∙ append_assoc schema.indexes (guards t) (guards_of (take n ts))
+
+-- a schema with these tables and indexes, and with no view
+pub schema_by : (schema : Schema) (tables : List Table) (indexes : List Index) → schema.tables ≡ tables → schema.indexes ≡ indexes → schema.views ≡ [] → schema ≡ record { tables = tables; indexes = indexes; views = [] }
+schema_by schema tables indexes ts is none = λ i. record { tables = ts i; indexes = is i; views = none i }
+
+-- the schema is its tables and the indexes for their keys
+pub schema_is : (count : ℕ) (cuts payments : List Reference)
+    → let ts = take count (tables_with cuts payments) in schema_to count cuts payments ≡ record { tables = ts; indexes = guards_of ts; views = [] }
+schema_is count cuts payments =
+    let all = tables_with cuts payments in
+    schema_by (schema_to count cuts payments) _ _ (tables_are count cuts payments) (indexes_to no_schema all count (all_placed cuts payments)) (views_to no_schema all count)
 
 -- the references of cuts and of payments, each in one of two orders, with which a schema has the first tables
 pub record IsOrdered (count : ℕ) (schema : Schema) : Type 0 where
@@ -88,13 +110,48 @@ has_tables fewer count low db first_ones =
       cuts = has.cuts;
       payments = has.payments;
       more = drop fewer first;
-      indexes = (schema_to count has.cuts has.payments).indexes;
-      is = has.is ∙ made_of (schema_to count has.cuts has.payments) _ (tables_are count has.cuts has.payments ∙ split) (views_to no_schema all count);
+      indexes = guards_of first;
+      is = has.is ∙ schema_is count has.cuts has.payments ∙ ap (λ (ts : List Table). let s : Schema = record { tables = ts; indexes = guards_of first; views = [] } in s) split;
     }
 
-longer : (cuts payments : List Reference) → length (tables_with cuts payments) ≡ 14
+pub longer : (cuts payments : List Reference) → length (tables_with cuts payments) ≡ 14
 unfolding written_out
 longer cuts payments = refl
+
+-- the table that is made at a place
+abbrev pub name_in : ℕ → TableName
+name_in at = get_or all_names at name.Office
+
+pub named : (cuts payments : List Reference) (at : ℕ) → at < 14 → get_or (tables_with cuts payments) at office ≡ table_with cuts payments (name_in at)
+unfolding tables_with
+named cuts payments at within = get_or-map (table_with cuts payments) all_names at name.Office office within
+
+pub all_named : (at : ℕ) → at < 14 → get_or all_tables at office ≡ table_called (name_in at)
+unfolding all_tables
+all_named at within = get_or-map table_called all_names at name.Office office within
+
+-- what is read of each table in turn is the same as of their places
+placed_as : (f : TableName → ℕ) (g : ℕ → ℕ) → map f all_names ≡ map g (range_with_len 0 14) → (at : ℕ) → at < 14 → f (name_in at) ≡ g at
+placed_as f g same at within = sym (get_or-map f all_names at name.Office 0 within) ∙ ap (λ l. get_or l at 0) same ∙ get_or-map-range_with_len g 0 14 at at 0 within (omega arith)
+
+-- how many tables are made before a table
+abbrev pub place : TableName → ℕ
+place name = length (filter (λ (t : Table). nat_lt t.tree (table_called name).tree) all_tables)
+
+pub place_at : (at : ℕ) → at < 14 → place (name_in at) ≡ at
+unfolding written_out
+place_at = placed_as place (λ at. at) refl
+
+-- its tree is behind those of the tables and of the indexes before it
+pub tree_at : (cuts payments : List Reference) (at : ℕ) → at < 14 → (table_with cuts payments (name_in at)).tree ≡ at + length (guards_of (take at (tables_with cuts payments)))
+unfolding written_out
+tree_at cuts payments = placed_as (λ name. (table_with cuts payments name).tree) (λ at. at + length (guards_of (take at (tables_with cuts payments)))) refl
+
+pub guards_few : (cuts payments : List Reference) (at : ℕ) → at < 14 → length (guards_of (take at (tables_with cuts payments))) ≤ 14
+unfolding written_out
+guards_few cuts payments at within =
+    let e : 0 ≡ length (guards_of (take at (tables_with cuts payments))) - 14 = placed_as (λ _. 0) (λ at. length (guards_of (take at (tables_with cuts payments))) - 14) refl at within in
+    omega (arith, e)
 
 -- a database of so many first tables has that many tables
 pub first_long : (count : ℕ) → count ≤ 14 → (db : Database) → HasFirst count db → length db.schema.tables ≡ count
@@ -102,23 +159,6 @@ first_long count low db first_ones =
     let has = ordered first_ones in
     let all = tables_with has.cuts has.payments in
     ap (λ (s : Schema). length s.tables) has.is ∙ ap length (tables_are count has.cuts has.payments) ∙ length-take-le count all (omega (arith, longer has.cuts has.payments))
-
--- the place of a table among all
-abbrev pub place : TableName → ℕ
-place name.Office = 0
-place name.Transmissions = 1
-place name.Returns = 2
-place name.Pools = 3
-place name.PoolCuts = 4
-place name.PoolReturns = 5
-place name.Fronts = 6
-place name.Verdicts = 7
-place name.Versions = 8
-place name.Recordings = 9
-place name.Credits = 10
-place name.Balances = 11
-place name.SegmentEnds = 12
-place name.MechanicalPools = 13
 
 since_one : (table : TableName) → first_table_count table ≤ 14
 since_one name.Office = lit≤ tt

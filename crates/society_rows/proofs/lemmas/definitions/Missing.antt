@@ -1,7 +1,8 @@
 -- Tables that are made one after another, behind so many first ones.
-use Rattle.std.proofs.Common.{◌⊎◌, ◌≡◌, ◌∙◌, ℕ, zero, suc, ◌+◌, ◌<◌, ◌≤◌, List, [], ◌∷◌, ◌++◌, length, take, drop, map, get_or, false, IsTrue, Result, Ok, IfErr, refl, sym, ap, subst, arith, inl, inr, append-nil, append_assoc}
+use Rattle.std.proofs.Common.{◌⊎◌, ◌≡◌, ◌∙◌, ℕ, zero, suc, ◌+◌, ◌-◌, ◌<◌, ◌≤◌, List, [], ◌∷◌, ◌++◌, length, take, drop, map, get_or, false, IsTrue, Result, Ok, IfErr, refl, sym, ap, subst, arith, inl, inr, append-nil, append_assoc}
 use Rattle.std.specs.List.{AllByRecursion, fold}
-use Rattle.std.proofs.lemmas.List.{take_more, take_all, length-take}
+use Rattle.std.proofs.Math.Nat.{le_refl}
+use Rattle.std.proofs.lemmas.List.{get_or-drop, take_more, take_all, length-take}
 use Rattle.std.proofs.lemmas.List.Sums.{fold_push}
 use Rattle.std.proofs.Math.Seq.{drop-append_seam}
 use Rattle.sqlite_schema.specs.declared.schema.Reference.{Reference}
@@ -14,51 +15,40 @@ use Rattle.sqlite.specs.State.{State, HasCleanDisk, ExecutesInside}
 use Rattle.society_rows.specs.declared.fault.RowFault.{RowFault}
 use Rattle.society_rows.specs.Effects.{BlamesMediumOver, OnlyFailsOver, RanAs}
 use Rattle.society_rows.specs.Faults.{IsFailure}
-use Rattle.society_rows.specs.Layout.{pool_cuts, pool_returns, all_tables, no_schema, office, tables_with, written_out}
+use Rattle.society_rows.specs.Layout.{pool_cuts, pool_returns, all_tables, no_schema, office, table_called, tables_with, written_out}
 use Rattle.society_rows.specs.Layouts.{HasFirst, schema_to}
 use Rattle.society_rows.specs.Raising.{Extends}
-use Rattle.society_rows.specs.Texts.{all_texts}
+use Rattle.society_rows.specs.TableNames.{create_text}
 use Rattle.society_rows.proofs.lemmas.definitions.Creates.{IsDefinition, IsMade, creates}
-use Rattle.society_rows.proofs.lemmas.definitions.FirstTables.{IsOrdered, first_of, ordered, tables_are}
-use Rattle.society_rows.proofs.lemmas.definitions.Texts.{AreDefinitions, AreDefinitionsFrom, all_are, later_are}
+use Rattle.society_rows.proofs.lemmas.definitions.FirstTables.{IsOrdered, all_named, first_of, longer, name_in, ordered, place_at, tables_are}
+use Rattle.society_rows.proofs.lemmas.definitions.Texts.{defined}
 use Rattle.society_rows.proofs.lemmas.errors.ToldTables.{create_blames, create_tells}
 
-defined_at : (before : Schema) (texts : List (List ℕ)) (tables : List Table) (d : Table) → AreDefinitions before texts tables → (i : ℕ) → i < length texts
-    → IsDefinition (fold created before (take i tables)) (get_or texts i []) (get_or tables i d)
-defined_at before [] tables d all i within = absurd (omega arith)
-defined_at before (text ∷ texts) [] d all i within = absurd all
-defined_at before (text ∷ texts) (table ∷ tables) d all zero within = all.0
-defined_at before (text ∷ texts) (table ∷ tables) d all (suc i) within = defined_at (created before table) texts tables d all.1 i (omega arith)
+-- with these references of cuts and of payments the tables from one on are as their texts make them
+abbrev AreStated : ℕ → List Reference → List Reference → Type 0
+AreStated count cuts payments = (at : ℕ) → count ≤ at → get_or (tables_with cuts payments) at office ≡ get_or all_tables at office
 
-defined_from : (n : ℕ) (before : Schema) (texts : List (List ℕ)) (tables : List Table) (d : Table) → AreDefinitionsFrom n before texts tables → (i : ℕ) → n ≤ i → i < length texts
-    → IsDefinition (fold created before (take i tables)) (get_or texts i []) (get_or tables i d)
-defined_from zero before texts tables d all i low within = defined_at before texts tables d all i within
-defined_from (suc n) before [] tables d all i low within = absurd all
-defined_from (suc n) before (text ∷ texts) [] d all i low within = absurd all
-defined_from (suc n) before (text ∷ texts) (table ∷ tables) d all zero low within = absurd (omega arith)
-defined_from (suc n) before (text ∷ texts) (table ∷ tables) d all (suc i) low within = defined_from n (created before table) texts tables d all i (omega arith) (omega arith)
+stated_all : AreStated 0 pool_cuts.references pool_returns.references
+unfolding written_out
+stated_all at low = refl
 
--- the texts from one on make their tables, with these references of cuts and of payments
-abbrev MakesFrom : ℕ → List Reference → List Reference → Type 0
-MakesFrom count cuts payments =
-    (i : ℕ) → count ≤ i → i < length all_texts → IsDefinition (schema_to i cuts payments) (get_or all_texts i []) (get_or (tables_with cuts payments) i office)
-
-makes_all : MakesFrom 0 pool_cuts.references pool_returns.references
-makes_all = defined_from 0 no_schema all_texts (tables_with pool_cuts.references pool_returns.references) office all_are
+later_alike : (cuts payments : List Reference) → drop 6 (tables_with cuts payments) ≡ drop 6 all_tables
+unfolding written_out
+later_alike cuts payments = refl
 
 -- behind the book's tables in whatever order references are listed
-makes_later : (cuts payments : List Reference) → MakesFrom 6 cuts payments
-makes_later cuts payments = defined_from 6 no_schema all_texts (tables_with cuts payments) office (later_are cuts payments)
-
-all_long : (cuts payments : List Reference) → (length (tables_with cuts payments) ≡ 14) × (length all_texts ≡ 14)
-unfolding written_out
-all_long cuts payments = (refl, refl)
+stated_later : (cuts payments : List Reference) → AreStated 6 cuts payments
+stated_later cuts payments at low =
+    let at_behind = λ (ts : List Table). get_or-drop 6 ts (at - 6) office in
+    let is : 6 + (at - 6) ≡ at = omega (arith, low) in
+    subst (λ n. get_or (tables_with cuts payments) n office ≡ get_or all_tables n office) is
+    (sym (at_behind (tables_with cuts payments)) ∙ ap (λ l. get_or l (at - 6) office) (later_alike cuts payments) ∙ at_behind all_tables)
 
 -- of so many first tables those behind some are new and empty, and these have the rows that they had
 pub record Grows (from count : ℕ) (old new : Database) : Type 0 where
   pub was : IsOrdered from old.schema
   pub first : IsOrdered count new.schema
-  pub makes : MakesFrom count first.cuts first.payments
+  pub stated : AreStated count first.cuts first.payments
   pub kept : AllByRecursion (λ t. new.trees t.tree ≡ old.trees t.tree) old.schema.tables
   pub made : List Table
   pub are : new.schema.tables ≡ old.schema.tables ++ made
@@ -69,7 +59,7 @@ pub none_made : (from : ℕ) → (from ≡ 0) ⊎ (6 ≤ from) → (d : Database
 none_made zero start d has = record {
   was = ordered has;
   first = record { cuts = pool_cuts.references; payments = pool_returns.references; cuts_are = inl refl; payments_are = inl refl; is = (ordered has).is };
-  makes = makes_all;
+  stated = stated_all;
   kept = all_from _ d.schema.tables (λ t is. refl);
   made = [];
   are = sym (append-nil d.schema.tables);
@@ -80,7 +70,7 @@ none_made (suc n) start d has =
     record {
       was = ordered has;
       first = ordered has;
-      makes = λ i low. makes_later (ordered has).cuts (ordered has).payments i (omega arith);
+      stated = λ at low. stated_later (ordered has).cuts (ordered has).payments at (omega arith);
       kept = all_from _ d.schema.tables (λ t is. refl);
       made = [];
       are = sym (append-nil d.schema.tables);
@@ -105,7 +95,7 @@ one_more from i table old mid new has more is_made =
         payments_are = first.payments_are;
         is = is_made.schema ∙ sym (ap (fold created no_schema) more ∙ fold_push created no_schema (take i (tables_with first.cuts first.payments)) table);
       };
-      makes = λ i low. has.makes i (omega arith);
+      stated = λ at low. has.stated at (omega arith);
       kept = all_from _ old.schema.tables (λ t is. all_has _ (old.schema.tables ++ has.made) t others (has_left old.schema.tables has.made t is) ∙ all_has _ old.schema.tables t has.kept is);
       made = has.made ++ placed ∷ [];
       are = ap (λ (s : Schema). s.tables) is_made.schema ∙ ap (λ (ts : List Table). ts ++ placed ∷ []) were ∙ append_assoc old.schema.tables has.made (placed ∷ []);
@@ -115,28 +105,31 @@ one_more from i table old mid new has more is_made =
       ]);
     }
 
--- the next text makes the next table
-pub next_made : (from i : ℕ) → i < length all_texts → (text : List ℕ) → text ≡ get_or all_texts i [] → (d : Database) (old new : State) (count : ℕ) → Grows from i d old.now
-    → ExecutesInside 0 text [] old new (Ok count) → Grows from (i + 1) d new.now
-next_made from i within text is d old new count has h =
-    let cuts = has.first.cuts in
-    let payments = has.first.payments in
-    let long = all_long cuts payments in
-    let ran = subst (λ t. ExecutesInside 0 t [] old new (Ok count)) is h in
-    one_more from i (get_or (tables_with cuts payments) i office) d old.now new.now has (take_more (tables_with cuts payments) i office (omega (arith, long.0, long.1)))
-    (creates _ _ _ (has.makes i (omega arith) within) old new count has.first.is ran.0)
+-- the text of the next table makes it behind the tables that are there
+defined_next : (from at : ℕ) → at < 14 → (was now : Database) (has : Grows from at was now) → IsDefinition (schema_to at has.first.cuts has.first.payments) (create_text (name_in at)) (get_or (tables_with has.first.cuts has.first.payments) at office)
+defined_next from at within was now has =
+    let schema : ℕ → Schema = λ n. schema_to n has.first.cuts has.first.payments in
+    subst (IsDefinition (schema at) (create_text (name_in at))) (sym (has.stated at (le_refl at) ∙ all_named at within))
+    (subst (λ n. IsDefinition (schema n) (create_text (name_in at)) (table_called (name_in at))) (place_at at within) (defined (name_in at) has.first.cuts has.first.payments))
+
+-- so there is one table more
+pub next_made : (from at : ℕ) → at < 14 → (d : Database) (old new : State) (count : ℕ) → Grows from at d old.now → ExecutesInside 0 (create_text (name_in at)) [] old new (Ok count) → Grows from (at + 1) d new.now
+next_made from at within d old new count has h =
+    let all = tables_with has.first.cuts has.first.payments in
+    one_more from at (get_or all at office) d old.now new.now has (take_more all at office (omega (arith, within, longer has.first.cuts has.first.payments)))
+    (creates _ _ _ (defined_next from at within d old.now has) old new count has.first.is h.0)
 
 -- what the next text tells of an error
-pub next_made_tells : (from i : ℕ) → i < length all_texts → (text : List ℕ) → text ≡ get_or all_texts i [] → (old new : State) (result : Result (Unit {0}) RowFault) → (old.in_transaction ≡ false → IfErr result IsFailure)
-    → (HasCleanDisk new → IsTrue old.in_transaction → RanAs text [] old new result) → OnlyFailsOver (λ d. (was : Database) × Grows from i was d) old new result
-next_made_tells from i within text is old new result ended ran clean grown =
-    create_tells _ _ _ (grown.1.makes i (omega arith) within) old new result ended (λ clean inside. subst (λ t. RanAs t [] old new result) is (ran clean inside)) clean grown.1.first.is
+pub next_made_tells : (from at : ℕ) → at < 14 → (old new : State) (result : Result (Unit {0}) RowFault) → (old.in_transaction ≡ false → IfErr result IsFailure)
+    → (HasCleanDisk new → IsTrue old.in_transaction → RanAs (create_text (name_in at)) [] old new result) → OnlyFailsOver (λ d. (was : Database) × Grows from at was d) old new result
+next_made_tells from at within old new result ended ran clean grown =
+    create_tells _ _ _ (defined_next from at within grown.0 old.now grown.1) old new result ended ran clean grown.1.first.is
 
 -- when the next text tells of the medium
-pub next_made_blames : (from i : ℕ) → i < length all_texts → (text : List ℕ) → text ≡ get_or all_texts i [] → (old new : State) (result : Result (Unit {0}) RowFault)
-    → (HasCleanDisk new → IsTrue old.in_transaction → RanAs text [] old new result) → BlamesMediumOver (λ d. (was : Database) × Grows from i was d) old new result
-next_made_blames from i within text is old new result ran clean inside grown =
-    create_blames _ _ _ (grown.1.makes i (omega arith) within) old new result (λ clean inside. subst (λ t. RanAs t [] old new result) is (ran clean inside)) clean inside grown.1.first.is
+pub next_made_blames : (from at : ℕ) → at < 14 → (old new : State) (result : Result (Unit {0}) RowFault)
+    → (HasCleanDisk new → IsTrue old.in_transaction → RanAs (create_text (name_in at)) [] old new result) → BlamesMediumOver (λ d. (was : Database) × Grows from at was d) old new result
+next_made_blames from at within old new result ran clean inside grown =
+    create_blames _ _ _ (defined_next from at within grown.0 old.now grown.1) old new result ran clean inside grown.1.first.is
 
 -- ---- the tables by their trees
 
@@ -168,19 +161,19 @@ drop_alike P (suc n) [] (y ∷ ys) same all = absurd cc
 drop_alike P (suc n) (x ∷ xs) (y ∷ ys) same all = let rest : map (λ (t : Table). t.tree) xs ≡ map (λ (t : Table). t.tree) ys = cc in drop_alike P n xs ys rest all
 
 -- after the last text every table is there
-pub all_made : (from i : ℕ) → from ≤ length all_texts → length all_texts ≤ i → (d e : Database) → Grows from i d e → Extends from d e
+pub all_made : (from i : ℕ) → from ≤ 14 → 14 ≤ i → (d e : Database) → Grows from i d e → Extends from d e
 all_made from i some past d e has =
     let was = has.was in
     let first = has.first in
     let olds = tables_with was.cuts was.payments in
     let news = tables_with first.cuts first.payments in
-    let long = all_long was.cuts was.payments in
-    let long_now = all_long first.cuts first.payments in
+    let long = longer was.cuts was.payments in
+    let long_now = longer first.cuts first.payments in
     let had : d.schema.tables ≡ take from olds = ap (λ (s : Schema). s.tables) was.is ∙ tables_are from was.cuts was.payments in
-    let whole : take i news ≡ news = take_all i news (omega (arith, long_now.0, long_now.1)) in
+    let whole : take i news ≡ news = take_all i news (omega (arith, long_now)) in
     let all : news ≡ take from olds ++ has.made =
     sym whole ∙ sym (tables_are i first.cuts first.payments) ∙ ap (λ (s : Schema). s.tables) (sym first.is) ∙ has.are ∙ ap (λ ts. ts ++ has.made) had in
-    let count : length (take from olds) ≡ from = omega (arith, length-take from olds, long.0, long.1) in
+    let count : length (take from olds) ≡ from = omega (arith, length-take from olds, long) in
     let rest : drop from news ≡ has.made = ap (drop from) all ∙ ap (λ n. drop n (take from olds ++ has.made)) (sym count) ∙ drop-append_seam (take from olds) has.made in
     record {
       layout = first_of (record {
@@ -188,7 +181,7 @@ all_made from i some past d e has =
         payments = first.payments;
         cuts_are = first.cuts_are;
         payments_are = first.payments_are;
-        is = first.is ∙ ap (fold created no_schema) (whole ∙ sym (take_all 14 news (omega (arith, long_now.0))));
+        is = first.is ∙ ap (fold created no_schema) (whole ∙ sym (take_all 14 news (omega (arith, long_now))));
       });
       kept = take_alike (λ n. e.trees n ≡ d.trees n) from olds all_tables (trees_alike was.cuts was.payments) (subst (AllByRecursion (λ t. e.trees t.tree ≡ d.trees t.tree)) had has.kept);
       empty = drop_alike (λ n. e.trees n ≡ []) from news all_tables (trees_alike first.cuts first.payments) (subst (AllByRecursion (λ t. e.trees t.tree ≡ [])) (sym rest) has.empty);

@@ -17,17 +17,17 @@ returns-in_err-rows-clause-read g c =
     let new = state g.S.Store c.select.new.tx.conn.now in
     let fault = c.in_err-rows.field-0.0 in
     reads_not (HasTable table) old new fault c.from_residual.result _ (λ db yes. IsTrue yes ↔ AreNumbered (table_called table) db)
-    (reads (numbered table) old new (Err fault) (λ clean. rw c.rowids.ensures at (c.in_err-rows.ensures.selected clean)) c.in_err-rows.ensures.survives) c.from_residual.ensures.1
+    (reads (numbered table) old new (Err fault) (λ clean. rw c.shape_of.ensures.rowids at (c.in_err-rows.ensures.selected clean)) c.in_err-rows.ensures.survives) c.from_residual.ensures.1
 
 pub returns-in_err-rows-clause-err : goal.returns-in_err-rows-clause-err
 returns-in_err-rows-clause-err g c = λ clean has.
     handed_on c.in_err-rows.field-0.0 c.from_residual.result _ c.from_residual.ensures.1
-    (query_tells (numbered c.args.table) (state g.S.Store c.args.tx.now.conn.now) (state g.S.Store c.select.new.tx.conn.now) (Err c.in_err-rows.field-0.0) (λ clean. rw c.rowids.ensures at (c.in_err-rows.ensures.selected clean)) clean has)
+    (query_tells (numbered c.args.table) (state g.S.Store c.args.tx.now.conn.now) (state g.S.Store c.select.new.tx.conn.now) (Err c.in_err-rows.field-0.0) (λ clean. rw c.shape_of.ensures.rowids at (c.in_err-rows.ensures.selected clean)) clean has)
 
 pub returns-in_err-rows-clause-medium : goal.returns-in_err-rows-clause-medium
 returns-in_err-rows-clause-medium g c = λ clean has.
     handed_on c.in_err-rows.field-0.0 c.from_residual.result _ c.from_residual.ensures.1
-    (query_errs (numbered c.args.table) (state g.S.Store c.args.tx.now.conn.now) (state g.S.Store c.select.new.tx.conn.now) (Err c.in_err-rows.field-0.0) (λ clean. rw c.rowids.ensures at (c.in_err-rows.ensures.selected clean)) clean has)
+    (query_errs (numbered c.args.table) (state g.S.Store c.args.tx.now.conn.now) (state g.S.Store c.select.new.tx.conn.now) (Err c.in_err-rows.field-0.0) (λ clean. rw c.shape_of.ensures.rowids at (c.in_err-rows.ensures.selected clean)) clean has)
 
 pub returns-clause-read : goal.returns-clause-read
 returns-clause-read g c =
@@ -36,5 +36,5 @@ returns-clause-read g c =
     let new = state g.S.Store c.select.new.tx.conn.now in
     let rows = c.in_ok-rows.rows in
     reads_of (HasTable table) old new rows c.begin_whole.result _ (λ db yes. IsTrue yes ↔ AreNumbered (table_called table) db)
-    (reads (numbered table) old new (Ok rows) (λ clean. rw c.rowids.ensures at (c.in_ok-rows.ensures.selected clean)) c.in_ok-rows.ensures.survives)
+    (reads (numbered table) old new (Ok rows) (λ clean. rw c.shape_of.ensures.rowids at (c.in_ok-rows.ensures.selected clean)) c.in_ok-rows.ensures.survives)
     (λ found. rw (c.begin_whole.ensures, c.deref.ensures.value) (numbered_by (old.now.trees (table_called table).tree) rows.items found))

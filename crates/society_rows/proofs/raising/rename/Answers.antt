@@ -1,6 +1,7 @@
 use Rattle.std.proofs.Common.{refl}
 use Rattle.sqlite.specs.Held.{state}
 use Rattle.society_rows.specs.declared.tables.TableName.TheVariants as name
+use Rattle.society_rows.specs.Layout.{written_out}
 use Rattle.society_rows.specs.Raising.{Renames}
 use Rattle.society_rows.specs.Stored.{HasLayout}
 use Rattle.society_rows.proofs.lemmas.changes.Effects.{writes_by}
@@ -18,12 +19,14 @@ returns-clause-renamed g c =
     writes_by HasLayout old new update_text newest c.run.result Renames (λ clean inside. rw (c.to_sql.ensures) at (c.run.ensures.ran clean inside)) c.run.ensures.survives (renames old new)
 
 pub returns-clause-err : goal.returns-clause-err
+unfolding written_out
 returns-clause-err g c =
     let old = state g.S.Store c.args.tx.now.conn.now in
     let new = state g.S.Store c.run.new.tx.conn.now in
     statement_tells HasLayout update_text newest old new c.run.result c.run.ensures.ended (λ clean inside. rw (c.to_sql.ensures) at (c.run.ensures.ran clean inside)) (update_codes update_text (settled name.Office) update_is newest refl old new)
 
 pub returns-clause-blamed : goal.returns-clause-blamed
+unfolding written_out
 returns-clause-blamed g c =
     let old = state g.S.Store c.args.tx.now.conn.now in
     let new = state g.S.Store c.run.new.tx.conn.now in
