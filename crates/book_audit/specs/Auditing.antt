@@ -15,9 +15,9 @@ use Rattle.society_rows.specs.Reads.{has_key}
 use Rattle.society_rows.specs.Stored.{rows_in}
 use Rattle.society_book.specs.Columns.{text_at}
 use Rattle.society_book.specs.DerivedRows.{knows_sender, tells_recordings, tells_verdict, tells_version, told_to_front, works_to}
-use Rattle.society_book.specs.Outcomes.{settled}
-use Rattle.society_book.specs.Runs.{RunValue, behind_run, is_key_among, settled_recordings, settled_run, settled_verdict, settled_version}
-use Rattle.society_book.specs.declared.outcomes.Outcome.{Outcome}
+use Rattle.society_arrivals.specs.Outcomes.{settled}
+use Rattle.society_arrivals.specs.Runs.{RunValue, behind_run, is_key_among, settled_recordings, settled_run, settled_verdict, settled_version}
+use Rattle.society_arrivals.specs.declared.outcomes.Outcome.{Outcome}
 use Rattle.work_ids.specs.SenderKey.{sender_key_of}
 use Rattle.works_core.specs.Verdicts.{works_in}
 use Rattle.works_core.specs.Versions.{judged_of}

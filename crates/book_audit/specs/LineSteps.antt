@@ -16,10 +16,10 @@ use Rattle.society_rows.specs.Stored.{rows_in}
 use Rattle.society_rows.specs.declared.fronts.FrontRow.{FrontRow}
 use Rattle.society_book.specs.BookRows.{book_of}
 use Rattle.society_book.specs.DerivedRows.{knows_sender}
-use Rattle.society_book.specs.Outcomes.{settled}
-use Rattle.society_book.specs.Runs.{RunValue, behind_run, settled_run}
+use Rattle.society_arrivals.specs.Outcomes.{settled}
+use Rattle.society_arrivals.specs.Runs.{RunValue, behind_run, settled_run}
 use Rattle.society_book.specs.Sources.{KeepsSent}
-use Rattle.society_book.specs.declared.outcomes.Outcome.{Outcome}
+use Rattle.society_arrivals.specs.declared.outcomes.Outcome.{Outcome}
 use Rattle.works_core.specs.Verdicts.{works_in}
 use Rattle.works_core.specs.Versions.{judged_of}
 use Rattle.book_audit.specs.declared.audit_fault.AuditFault.{AuditFault}

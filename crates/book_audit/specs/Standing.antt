@@ -17,7 +17,7 @@ use Rattle.society_rows.specs.Stored.{rows_in}
 use Rattle.society_book.specs.BookRows.{is_return_row, return_rows}
 use Rattle.society_book.specs.Columns.{HasRows}
 use Rattle.society_book.specs.DerivedRows.{front_rows, is_named}
-use Rattle.society_book.specs.Going.{ReadsEnds}
+use Rattle.society_book.specs.EndLists.{ReadsEnds}
 use Rattle.society_book.specs.Sources.{KeepsSent}
 use Rattle.work_ids.specs.Blanks.{without_trailing_blanks}
 use Rattle.book_audit.specs.Pools.{AreOrdersOf, ListPools}

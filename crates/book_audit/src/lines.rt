@@ -8,10 +8,10 @@ ghost use Rattle.book_audit.specs.Auditing.{AreLinesOf, AreSenders, HasOutcomes,
 ghost use Rattle.book_audit.specs.LineSteps.{AsksFor, Compares, DeniesLine, DeniesLines, FindsLine, FindsLines, IsNot, SettlesLine};
 ghost use Rattle.book_audit.specs.declared.audit_fault.AuditFault.TheVariants.{Memory};
 ghost use Rattle.society_book.specs.BookRows.{book_of};
-ghost use Rattle.society_book.specs.Going.{IsWholeIn};
-ghost use Rattle.society_book.specs.Outcomes.{settled};
+ghost use Rattle.society_arrivals.specs.Going.{IsWholeIn};
+ghost use Rattle.society_arrivals.specs.Outcomes.{settled};
 ghost use Rattle.society_book.specs.RightRows.{KeepsUnsound};
-ghost use Rattle.society_book.specs.Runs.{is_key_among, settled_recordings, settled_verdict, settled_version};
+ghost use Rattle.society_arrivals.specs.Runs.{is_key_among, settled_recordings, settled_verdict, settled_version};
 ghost use Rattle.society_rows.specs.Between.{within};
 ghost use Rattle.society_rows.specs.Layout as layout;
 ghost use Rattle.society_rows.specs.Questions.{RowsAnswer};
@@ -24,8 +24,11 @@ use crate::alike::{Columns, are_alike};
 use crate::reading::{ask, worked_out};
 use crate::strangers::has_no_stranger;
 use share_rules::Office;
-use society_arrivals::{recordings_by_key, versions_by_key, whole_run};
-use society_book::{Outcome, Run, ascending_works, column_of, settle_run, verdict_rows};
+use society_arrivals::{
+    Outcome, Run, ascending_works, recordings_by_key, settle_run, verdict_rows, versions_by_key,
+    whole_run,
+};
+use society_book::column_of;
 use society_rows::{FrontRow, Question, RowFault};
 use sqlite::{Alter, Transaction};
 use std::alloc::{AllocError, Global};
@@ -158,12 +161,12 @@ pub fn settled_line<'a>(
     ensures settled { IfOk result (λ line. SettlesLine sender.now run.now line.0 line.1.items) }
     ensures memory { IfErr result (λ fault. fault ≡ Memory) }
 {
-    let works = ascending_works(alloc, run.noted())?;
+    let works = ascending_works(alloc, run.notes())?;
     let mut end = end_of_none(alloc, works.as_slice())?;
-    let outcomes = worked_out(settle_run(alloc, &mut end, run.noted()))?;
+    let outcomes = worked_out(settle_run(alloc, &mut end, run.notes()))?;
     let front = FrontRow {
         sender: sender.as_bytes(),
-        front: run.reached(),
+        front: run.front(),
         works: worked_out(column_of(end.works()))?,
     };
     Ok((front, outcomes))

@@ -5,7 +5,7 @@ ghost use Rattle.sqlite_value.specs.declared.value.Value.TheVariants.{Int};
 ghost use Rattle.book_audit.specs.Examining.{Examines};
 ghost use Rattle.book_audit.specs.Standing.{HoldsNoLines, IsKnown, IsReach, KnowsReach, Learns, OfLines, TellsCut};
 ghost use Rattle.society_core.specs.Book.{front, is_applied};
-ghost use Rattle.society_book.specs.Going.{ReadsEnds};
+ghost use Rattle.society_book.specs.EndLists.{ReadsEnds};
 ghost use Rattle.society_rows.specs.Between.{within};
 ghost use Rattle.sqlite_trees.specs.Tree.{Trees};
 

@@ -8,7 +8,7 @@ use Rattle.society_core.specs.Book.{AreOrderly, Book, front}
 use Rattle.society_rows.specs.Layout as layout
 use Rattle.society_rows.specs.Stored.{AreNumbered}
 use Rattle.society_book.specs.DerivedRows.{tells_recordings, tells_verdict, tells_version, told_to_front, works_to}
-use Rattle.society_book.specs.Shown.{KeepsUnlined, PutsLine}
+use Rattle.society_arrivals.specs.LineTables.{KeepsUnlined, PutsLine}
 use Rattle.society_book.specs.Sources.{KeepsSent}
 use Rattle.book_audit.specs.Auditing.{AreLinesOf, AreSenders, HasLine}
 use Rattle.book_derivation.specs.Deriving.{HasNoLines}

@@ -3,17 +3,16 @@ ghost use Rattle.std.specs.Prelude.{◌≡◌, map};
 ghost use Rattle.book_audit.specs.Examining.{Never};
 ghost use Rattle.book_derivation.specs.Deriving.{Derives};
 ghost use Rattle.book_derivation.specs.Lines.{WritesLine, WritesLines};
-ghost use Rattle.society_book.specs.Arriving.{PutsOutcomes};
+ghost use Rattle.society_arrivals.specs.Arriving.{PutsOutcomes};
 ghost use Rattle.society_book.specs.RightRows.{KeepsUnsound};
-ghost use Rattle.society_book.specs.Shown.{PutsLine};
+ghost use Rattle.society_arrivals.specs.LineTables.{PutsLine};
 ghost use Rattle.society_rows.specs.Between.{within};
 ghost use Rattle.society_rows.specs.Rows.{front_values, recording_values, verdict_values, version_values};
 
 use crate::writing::wrote;
 use book_audit::{AuditFault, run_of, settled_line, worked_out};
 use share_rules::Office;
-use society_arrivals::{recordings_by_key, versions_by_key};
-use society_book::{Outcome, verdict_rows};
+use society_arrivals::{Outcome, recordings_by_key, verdict_rows, versions_by_key};
 use society_rows::{
     FrontRow, RecordingRow, VerdictRow, VersionRow, add_recordings, add_verdicts, add_versions,
     put_front,

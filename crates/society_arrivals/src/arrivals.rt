@@ -1,15 +1,17 @@
 //! The transmissions that come of a sender.
-ghost use Rattle.std.specs.Prelude.{◌≡◌, ℕ, None};
+ghost use Rattle.std.specs.Prelude.{◌≡◌, None};
 ghost use Rattle.cwr_files.specs.FileFault.{file_fault};
 ghost use Rattle.society_rows.specs.Between.{between, within};
-ghost use Rattle.society_book.specs.Arriving.{ArrivesBy, ArrivesWith, BeginsRun, TakesRun};
+ghost use Rattle.society_arrivals.specs.Arriving.{ArrivesBy, ArrivesWith, BeginsRun, TakesRun};
 ghost use Rattle.society_book.specs.Shown.{AddsAlone};
-ghost use Rattle.society_book.specs.Steps.{Arrives, ArrivesTo, Does, DoesOpen, Looks};
+ghost use Rattle.society_arrivals.specs.Arrivals.{Arrives, ArrivesTo};
+ghost use Rattle.society_book.specs.Steps.{Does, DoesOpen, Looks};
 
 use crate::going::{go_on, go_over};
+use crate::run::Run;
 use crate::settling::{put_run, reached_in};
 use share_rules::Office;
-use society_book::{Run, ends_in};
+use society_book::ends_in;
 use society_core::NumberPlace;
 use society_rows::{Idle, RowFault, TransmissionRow, add_transmission};
 use sqlite::{Alter, Transaction};
@@ -97,8 +99,8 @@ fn arrive_inside<S: Alter>(
     let run = run_from(alloc, tx, office, sender, number, body, reached.front)?;
     take_run(alloc, tx, sender, number, body, reached.works, &run)?;
     Ok(NumberPlace {
-        front: run.reached(),
-        is_applied: reached.front < run.reached(),
+        front: run.front(),
+        is_applied: reached.front < run.front(),
     })
 }
 

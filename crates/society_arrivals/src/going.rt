@@ -2,13 +2,14 @@
 ghost use Rattle.std.specs.Prelude.{◌≡◌, ◌≤◌};
 ghost use Rattle.society_rows.specs.Between.{within};
 ghost use Rattle.society_rows.specs.Effects.{Errs};
-ghost use Rattle.society_book.specs.Going.{IsWholeIn, RunsOn, RunsOver};
+ghost use Rattle.society_arrivals.specs.Going.{IsWholeIn, RunsOn, RunsOver};
 ghost use Rattle.society_book.specs.RightRows.{KeepsUnsound};
 ghost use Rattle.society_book.specs.Steps.{Looks, LooksOpen};
 ghost use Rattle.work_ids.specs.Segments.{greatest_rank};
 
+use crate::run::Run;
 use share_rules::Office;
-use society_book::{Run, SenderEnds, ends_in};
+use society_book::{SenderEnds, ends_in};
 use society_rows::{RowFault, fold_run};
 use sqlite::{Alter, Transaction};
 use std::alloc::Global;
@@ -24,7 +25,7 @@ pub(crate) fn go_on<S: Alter>(
     ensures looks { within S.Store tx.old tx.new Looks result (λ db _. RunsOn sender.now run.old run.new db) }
     ensures err { within S.Store tx.old tx.new (Errs KeepsUnsound) result }
 {
-    match run.reached().checked_add(1) {
+    match run.front().checked_add(1) {
         Some(next) => fold_run(tx, sender.as_bytes(), next, run),
         None => Err(RowFault::Overflow),
     }
@@ -45,7 +46,7 @@ pub(crate) fn go_over<S: Alter>(
 {
     // The rank from which the last numbers were read: it rises also where a disk lies of what stands behind it.
     let mut rank = begun;
-    'segments: while let Some(next) = ends.behind(rank, run.reached()) {
+    'segments: while let Some(next) = ends.behind(rank, run.front()) {
         run.pass(next);
         go_on(tx, sender, run)?;
         rank = next;

@@ -6,10 +6,14 @@
 
 mod arrivals;
 mod going;
+mod outcomes;
+mod run;
 mod settling;
 mod statements;
 
 pub use arrivals::arrive;
 pub use going::whole_run;
+pub use outcomes::{Outcome, settle_run, verdict_rows};
+pub use run::{Noted, Run, ascending_works};
 pub use settling::{recordings_by_key, versions_by_key};
 pub use statements::state_end;

@@ -2,16 +2,17 @@
 ghost use Rattle.std.specs.Prelude.{◌≡◌, [], ℕ, flat_map, map, IfOk, IsPermutation};
 ghost use Rattle.society_rows.specs.Between.{within};
 ghost use Rattle.society_rows.specs.Rows.{front_values, recording_values, verdict_values, version_values};
-ghost use Rattle.society_book.specs.Arriving.{EndsAtFront, LearnsWork, LearnsWorks, PutsOutcomes, PutsRun};
-ghost use Rattle.society_book.specs.Outcomes.{settled};
-ghost use Rattle.society_book.specs.Runs.{settled_recordings, settled_version};
-ghost use Rattle.society_book.specs.Shown.{AddsTold, ByBook};
-ghost use Rattle.society_book.specs.Steps.{Does, HasReached, Looks, LooksOpen, Makes, ShowReached};
+ghost use Rattle.society_arrivals.specs.Arriving.{EndsAtFront, LearnsWork, LearnsWorks, PutsOutcomes, PutsRun};
+ghost use Rattle.society_arrivals.specs.Outcomes.{settled};
+ghost use Rattle.society_arrivals.specs.Runs.{settled_recordings, settled_version};
+ghost use Rattle.society_arrivals.specs.LineTables.{AddsTold};
+ghost use Rattle.society_book.specs.Shown.{ByBook};
+ghost use Rattle.society_book.specs.Steps.{Does, Looks, LooksOpen, Makes};
+ghost use Rattle.society_arrivals.specs.Arrivals.{HasReached, ShowReached};
 
-use society_book::{
-    Noted, Outcome, Run, ascending_works, column_of, last_version, recording_rows, settle_run,
-    verdict_rows, version_rows,
-};
+use crate::outcomes::{Outcome, recording_rows, settle_run, verdict_rows, version_rows};
+use crate::run::{Noted, Run, ascending_works};
+use society_book::{column_of, last_version};
 use society_rows::{
     FrontRow, Question, RecordingRow, RowFault, VerdictRow, VersionRow, add_recordings,
     add_verdicts, add_versions, answer, put_front,
@@ -112,19 +113,6 @@ fn end_at_front<S: Alter>(
     Ok(end)
 }
 
-// Adds versions and recordings.
-fn add_works<S: Alter>(
-    tx: &mut Transaction<'_, S>,
-    versions: &[VersionRow<'_>],
-    recordings: &[RecordingRow<'_>],
-) -> Result<(), RowFault>
-    ensures same_reference { tx.new.conn.ghost_name ≡ tx.old.conn.ghost_name }
-    ensures does { within S.Store tx.old tx.new Does result (Makes (AddsTold [] (map version_values versions.now) (map recording_values recordings.now))) }
-{
-    add_versions(tx, versions)?;
-    add_recordings(tx, recordings)
-}
-
 // Adds verdicts, versions and recordings.
 fn add_told<S: Alter>(
     tx: &mut Transaction<'_, S>,
@@ -136,7 +124,8 @@ fn add_told<S: Alter>(
     ensures does { within S.Store tx.old tx.new Does result (Makes (AddsTold (map verdict_values verdicts.now) (map version_values versions.now) (map recording_values recordings.now))) }
 {
     add_verdicts(tx, verdicts)?;
-    add_works(tx, versions, recordings)
+    add_versions(tx, versions)?;
+    add_recordings(tx, recordings)
 }
 
 /// The rows of the versions that some transactions are, in the order of their keys: so a table that has none of this sender takes
@@ -199,11 +188,11 @@ pub(crate) fn put_run<S: Alter>(
     ensures same_reference { tx.new.conn.ghost_name ≡ tx.old.conn.ghost_name }
     ensures does { within S.Store tx.old tx.new Does result (λ before after _. PutsRun sender.now works run.now before.trees after.trees) }
 {
-    let mut end = end_at_front(alloc, tx, sender, works, run.noted())?;
-    let outcomes = settle_run(alloc, &mut end, run.noted())?;
+    let mut end = end_at_front(alloc, tx, sender, works, run.notes())?;
+    let outcomes = settle_run(alloc, &mut end, run.notes())?;
     let front = FrontRow {
         sender: sender.as_bytes(),
-        front: run.reached(),
+        front: run.front(),
         works: column_of(end.works())?,
     };
     put_told(alloc, tx, &front, outcomes.as_slice())

@@ -1,14 +1,16 @@
 //! The ends of segments that a sender states.
 ghost use Rattle.std.specs.Prelude.{◌≡◌};
 ghost use Rattle.society_rows.specs.Between.{between, within};
-ghost use Rattle.society_book.specs.Arriving.{EndsRun, StatesBy, StatesWith};
+ghost use Rattle.society_arrivals.specs.Arriving.{EndsRun, StatesBy, StatesWith};
 ghost use Rattle.society_book.specs.Shown.{AddsAlone};
-ghost use Rattle.society_book.specs.Steps.{Does, DoesOpen, Looks, StatesEnd, StatesEndTo};
+ghost use Rattle.society_book.specs.Steps.{Does, DoesOpen, Looks};
+ghost use Rattle.society_arrivals.specs.Arrivals.{StatesEnd, StatesEndTo};
 
 use crate::going::go_over;
+use crate::run::Run;
 use crate::settling::{put_run, reached_in};
 use share_rules::Office;
-use society_book::{Run, ends_in};
+use society_book::ends_in;
 use society_rows::{Idle, RowFault, SegmentEndRow, add_segment_end};
 use sqlite::{Alter, Transaction};
 use std::alloc::Global;
@@ -74,7 +76,7 @@ fn state_inside<S: Alter>(
     let reached = reached_in(tx, sender.as_bytes())?;
     let run = run_behind(alloc, tx, office, sender, end, reached.front)?;
     end_run(alloc, tx, sender, end, reached.works, &run)?;
-    Ok(run.reached())
+    Ok(run.front())
 }
 
 /// Adds the end of a segment in a transaction of its own, applies what was waiting for it, and tells its sender's front then, by

@@ -21,7 +21,7 @@ use Rattle.work_ids.specs.Account.{account_text}
 use Rattle.work_ids.specs.Blanks.{without_trailing_blanks}
 use Rattle.works_core.specs.Line.{filled_number, line_of}
 use Rattle.works_core.specs.Recordings.{isrcs_of}
-use Rattle.works_core.specs.Versions.{judged_of, placed_line}
+use Rattle.works_core.specs.Versions.{judged_of, placed_line, Placed}
 use Rattle.works_core.specs.Verdicts.{works_in}
 use Rattle.works_core.specs.declared.verdict.Verdict.{Verdict}
 use Rattle.works_core.specs.declared.verdict.Verdict.TheVariants.{Accepted, Rejected}
@@ -42,9 +42,13 @@ has_stated book sender = list_any (λ key. bytes_eq key.sender sender) (finite.k
 abbrev pub knows_sender : Book → List ℕ → Bool
 knows_sender book sender = has_sent book sender || has_stated book sender
 
+-- a sender's line up to its front
+abbrev pub line_at_front : Office → Book → List ℕ → List Placed
+line_at_front office book sender = placed_line (line_of office (transmissions_to book sender (front book sender)))
+
 -- how many NWR of a sender are accepted up to its front
 abbrev pub works_to : Office → Book → List ℕ → ℕ
-works_to office book sender = works_in (judged_of (placed_line (line_of office (transmissions_to book sender (front book sender)))))
+works_to office book sender = works_in (judged_of (line_at_front office book sender))
 
 -- the row of a sender of whom the book has anything: sender, front, works (profile)
 abbrev pub front_rows : Office → Book → List ℕ → List Row

@@ -1,5 +1,5 @@
 -- Lists of the ends of a sender's segments, as they are read (representation).
-use Rattle.std.specs.Prelude.{ℕ, ◌+◌, ◌==◌, Bool, List, Option, Some, None, find, if◌then◌else◌, is_none, nat_le, option_map}
+use Rattle.std.specs.Prelude.{ℕ, ◌+◌, ◌==◌, Bool, List, Option, Some, None, find, if◌then◌else◌, is_none, nat_le, option_map, ◌≡◌}
 use Rattle.sqlite_value.specs.Order.{Row}
 use Rattle.sender_segments.specs.Ways.{End, StatedEnds, end_stated}
 use Rattle.society_core.specs.Ends.{fault_stated, place_stated}
@@ -7,6 +7,9 @@ use Rattle.society_book.specs.BookRows.{end_of}
 use Rattle.society_book.specs.Columns.{segment_place_at}
 use Rattle.work_ids.specs.SegmentEnds.{StatedEnd}
 use Rattle.work_ids.specs.Segments.{base_of}
+use Rattle.sqlite_trees.specs.Tree.{Trees}
+use Rattle.society_core.specs.Book.{Book, ends_of}
+use Rattle.society_book.specs.Sources.{HasEnds}
 
 -- the ends that a list has, each by the place of its segment; the first one where a segment has more
 abbrev pub end_listed : List StatedEnd → StatedEnds
@@ -29,3 +32,7 @@ behind_end first reached (Some end) = if nat_le (first + end.last) reached then 
 abbrev pub passed_to : ℕ → Option End → Option ℕ
 passed_to front None = None
 passed_to front (Some end) = if nat_le (base_of end.next) front then Some (base_of end.next) else None
+
+-- these are the ends that a sender stated, in every book with those of the database
+abbrev pub ReadsEnds : List ℕ → Trees → List StatedEnd → Type 0
+ReadsEnds sender db ends = (book : Book) → HasEnds book db → end_listed ends ≡ ends_of book sender

@@ -1,11 +1,9 @@
 -- What of the order that closed a pool is known (representation).
 use Rattle.std.specs.Prelude.{ℕ, ◌≡◌, List, Option, Some, option_map}
 use Rattle.share_rules.specs.declared.kind.Kind.{Kind}
-use Rattle.society_core.specs.Answers.{pool_known_as}
 use Rattle.society_core.specs.Book.{Book, order_at}
 use Rattle.society_core.specs.Keys.{ascending, return_cmp, transmission_cmp}
 use Rattle.society_core.specs.Orders.{Order}
-use Rattle.society_core.specs.declared.store.Known.{Known}
 use Rattle.society_book.specs.Items.{return_keys, transmission_keys}
 
 -- this is the amount of the pool, none where it is not closed
@@ -23,12 +21,3 @@ IsCutOf pool book cut = (order : Order) → order_at book pool ≡ Some order �
 -- these are the parts of the keys of the returns that it pays, where it is closed
 abbrev pub AreReturnsOf : ℕ → Book → List (List ℕ × ℕ) → Type 0
 AreReturnsOf pool book returns = (order : Order) → order_at book pool ≡ Some order → ascending return_cmp (return_keys returns) ≡ order.returns
-
--- this is known of an order where its pool has this amount and this kind
-abbrev pub IsKnownByKind : ℕ → ℕ → Kind → Order → Book → Known → Type 0
-IsKnownByKind pool amount kind order book known = IsAmount pool book (Some amount) → IsKindOf pool book kind → known ≡ pool_known_as book pool order
-
--- and where it has this cut
-abbrev pub IsKnownByCut : ℕ → ℕ → Kind → List (List ℕ × ℕ) → Order → Book → Known → Type 0
-IsKnownByCut pool amount kind cut order book known =
-    IsAmount pool book (Some amount) → IsKindOf pool book kind → IsCutOf pool book cut → known ≡ pool_known_as book pool order

@@ -2,15 +2,10 @@
 use Rattle.std.specs.Prelude.{◌≡◌, true}
 use Rattle.sqlite_trees.specs.Tree.{Trees}
 use Rattle.sqlite_value.specs.Order.{Row}
-use Rattle.society_core.specs.Book.{Book, IsSound, is_end_entry, is_entry}
-use Rattle.society_book.specs.BookRows.{end_of, end_row, segment_key_of, transmission_key_of, transmission_row}
-use Rattle.society_book.specs.Columns.{blob_at, segment_place_at, text_at, whole_number_at}
+use Rattle.society_core.specs.Book.{Book, IsSound, is_end_entry}
+use Rattle.society_book.specs.BookRows.{end_of, end_row, segment_key_of}
+use Rattle.society_book.specs.Columns.{segment_place_at, text_at}
 use Rattle.society_book.specs.Sources.{KeepsSent}
-
--- the row is that of a transmission that may stand in a book
-pub record IsRightSent (row : Row) : Type 0 where
-  pub form : row ≡ transmission_row (transmission_key_of row) (blob_at 2 row)
-  pub entry : is_entry (text_at 0 row) (whole_number_at 1 row) (blob_at 2 row) ≡ true
 
 -- the row is that of an end that may stand in a book
 pub record IsRightStated (row : Row) : Type 0 where

@@ -7,21 +7,16 @@ use Rattle.sqlite_value.specs.Order.{Row}
 use Rattle.sqlite_trees.specs.Tree.{Trees}
 use Rattle.sqlite_schema.specs.declared.schema.Table.{Table}
 use Rattle.sqlite.specs.State.{HasCleanDisk, State, Survives}
-use Rattle.sqlite.specs.Effect.{Database}
-use Rattle.society_rows.specs.Balances.{AddsUnits}
 use Rattle.society_rows.specs.declared.fault.RowFault.{RowFault}
-use Rattle.society_rows.specs.Stored.{AreNumbered, HasLayout, KeepsOthers, put_over, rows_in}
-use Rattle.society_rows.specs.Layout as layout
-use Rattle.society_rows.specs.Layout.{all_tables, fronts, recordings, verdicts, versions, returns}
-use Rattle.std.specs.Prelude.{◌≢◌}
+use Rattle.society_rows.specs.Stored.{HasLayout, KeepsOthers, rows_in}
+use Rattle.society_rows.specs.Layout.{verdicts, returns}
 use Rattle.pool_split.specs.declared.claim.Credit.{Credit}
 use Rattle.society_core.specs.Book.{Book}
 use Rattle.society_core.specs.Orders.{Order}
-use Rattle.work_ids.specs.Account.{account_of, account_text}
+use Rattle.work_ids.specs.Account.{account_of}
 use Rattle.work_ids.specs.declared.fault.IdFault.{IdFault}
 use Rattle.work_ids.specs.declared.account.Account.{Account}
 use Rattle.work_ids.specs.declared.account.Account.TheVariants.{Ipi, Party, Unclaimed}
-use Rattle.society_book.specs.BookRows.{cut_row, marks_of, paid_row, pool_row}
 use Rattle.society_book.specs.Columns.{whole_number_at, text_at}
 use Rattle.society_book.specs.DerivedRows.{credit_row, verdict_row}
 use Rattle.society_book.specs.Kept.{HoldsBook}
@@ -138,47 +133,3 @@ ShowCredits credits rows = (pool : ℕ) × (rows ≡ map (λ line. credit_row po
 -- the row of a pool that is closed, or none
 abbrev pub ShowPool : Option Order → List Row → Type 0
 ShowPool kept rows = ((rows ≡ []) × (kept ≡ None)) ⊎ ((pool : ℕ) × (order : Order) × (rows ≡ (Int (pos pool) ∷ Int (pos order.amount) ∷ []) ∷ []) × (kept ≡ Some order))
-
--- every table but those of fronts, verdicts, versions and recordings is as it was
-abbrev pub KeepsUnlined : Trees → Trees → Type 0
-KeepsUnlined old new =
-    AllByRecursion (λ t. t.tree ≢ fronts.tree → t.tree ≢ verdicts.tree → t.tree ≢ versions.tree → t.tree ≢ recordings.tree → new t.tree ≡ old t.tree) all_tables
-
--- the tables have this row of a front in place of its sender's, and these rows of verdicts, of versions and of recordings more; the other tables are as they were
-pub record PutsLine (front : Row) (judged told named : List Row) (old new : Trees) : Type 0 where
-  pub put : AreNumbered fronts old → IsPermutation (put_over front (rows_in fronts old)) (rows_in fronts new)
-  pub numbered : AreNumbered fronts old → AreNumbered fronts new
-  pub verdicts : IsPermutation (judged ++ rows_in verdicts old) (rows_in verdicts new)
-  pub versions : IsPermutation (told ++ rows_in versions old) (rows_in versions new)
-  pub recordings : IsPermutation (named ++ rows_in recordings old) (rows_in recordings new)
-  pub others : KeepsUnlined old new
-
--- every table but those of verdicts, versions and recordings is as it was
-abbrev pub KeepsUntold : Trees → Trees → Type 0
-KeepsUntold old new = AllByRecursion (λ t. t.tree ≢ verdicts.tree → t.tree ≢ versions.tree → t.tree ≢ recordings.tree → new t.tree ≡ old t.tree) all_tables
-
--- the tables have these rows of verdicts, of versions and of recordings more; the other tables are as they were
-pub record AddsTold (judged told named : List Row) (old new : Trees) : Type 0 where
-  pub verdicts : IsPermutation (judged ++ rows_in verdicts old) (rows_in verdicts new)
-  pub versions : IsPermutation (told ++ rows_in versions old) (rows_in versions new)
-  pub recordings : IsPermutation (named ++ rows_in recordings old) (rows_in recordings new)
-  pub others : KeepsUntold old new
-
--- the balances have the units of each credit more, one after another
-abbrev pub AddsEach : List Credit → Database → Database → Type 0
-AddsEach [] old new = new ≡ old
-AddsEach (credit ∷ credits) old new = (mid : Database) × AddsUnits (account_text credit.account) (pos credit.units) old mid × AddsEach credits mid new
-
--- every table but those of the pools and of what they pay is as it was
-abbrev pub KeepsLines : Trees → Trees → Type 0
-KeepsLines old new =
-    AllByRecursion (λ t. t.tree ≢ layout.pools.tree → t.tree ≢ layout.pool_cuts.tree → t.tree ≢ layout.pool_returns.tree → t.tree ≢ layout.mechanical_pools.tree → t.tree ≢ layout.credits_table.tree → t.tree ≢ layout.balances.tree → new t.tree ≡ old t.tree) all_tables
-
--- the tables have the rows of a pool more, with its cut, the returns that it pays, its marks and the lines of its credits; but for the balances the other tables are as they were
-pub record AddsPool (pool : ℕ) (order : Order) (paid_out : List Credit) (old new : Trees) : Type 0 where
-  pub pools : IsPermutation ((pool_row pool order ∷ []) ++ rows_in layout.pools old) (rows_in layout.pools new)
-  pub cuts : IsPermutation (map (cut_row pool) order.cut ++ rows_in layout.pool_cuts old) (rows_in layout.pool_cuts new)
-  pub paid : IsPermutation (map (paid_row pool) order.returns ++ rows_in layout.pool_returns old) (rows_in layout.pool_returns new)
-  pub marks : IsPermutation (marks_of pool order.kind ++ rows_in layout.mechanical_pools old) (rows_in layout.mechanical_pools new)
-  pub lines : IsPermutation (map (λ line. credit_row pool line.0 line.1) (enumerate_from 0 paid_out) ++ rows_in layout.credits_table old) (rows_in layout.credits_table new)
-  pub others : KeepsLines old new

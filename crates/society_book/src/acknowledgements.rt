@@ -1,46 +1,25 @@
 //! The acknowledgement of a transmission.
-ghost use Rattle.std.specs.Prelude.{◌≡◌, ◌⊎◌, List, ℕ, None, Option, Some, IfErr, IfOk};
-ghost use Rattle.cwr_files.specs.Contents.{transmission_in};
-ghost use Rattle.cwr_files.specs.FileFault.{file_fault};
+ghost use Rattle.std.specs.Prelude.{◌≡◌, List, ℕ, Option, IfOk};
 ghost use Rattle.society_core.specs.Book.{ack, body_at};
 ghost use Rattle.society_rows.specs.Questions.{Asks};
-ghost use Rattle.society_rows.specs.declared.fault.RowFault.TheVariants.{Memory, Unread};
 ghost use Rattle.society_book.specs.Shown.{ByBook, ByOwnBook, ShowBody};
 ghost use Rattle.society_rows.specs.Between.{between};
-ghost use Rattle.society_book.specs.Errors.{Blames};
 ghost use Rattle.society_book.specs.Items.{items_of};
 ghost use Rattle.society_book.specs.AnswersShown.{IsAcknowledged};
 
+use crate::bodies::transmission_of;
 use crate::senders::verdicts_of;
 use ack_files::write_ack;
-use cwr_files::{ReadFault, Transmission, read_transmission};
 use share_rules::Office;
-use society_rows::{Idle, Question, RowFault, TransmissionRow, ask};
+use society_rows::{Idle, Question, RowFault, ask};
 use sqlite::{Alter, Row};
 use std::alloc::Global;
 use work_ids::{SenderKey, TransmissionNumber};
 use works_core::Verdict;
 
-/// The transmission that a body is; `Unread` where it is none of the sender.
-pub(crate) fn read_body<'a>(
-    alloc: Global,
-    body: &'a [u8],
-    sender: &SenderKey,
-) -> Result<Transmission<'a>, RowFault>
-    ensures reads { IfOk result (λ transmission. transmission ≡ transmission_in body.now) }
-    ensures err { IfErr result (λ fault. (fault ≡ Memory) ⊎ (fault ≡ Unread)) }
-    ensures blames { IfErr result (Blames (file_fault sender.now body.now ≡ None → ⊥)) }
-{
-    match read_transmission(alloc, body, sender) {
-        Ok(transmission) => Ok(transmission),
-        Err(ReadFault::Memory) => Err(RowFault::Memory),
-        Err(ReadFault::File(_)) => Err(RowFault::Unread),
-    }
-}
-
 // The acknowledgement of the transmission that rows show, with these verdicts; `Unread` where they are not one row, or its
 // body is no transmission of the sender.
-fn written(
+fn acknowledgement_in(
     alloc: Global,
     office: &Office,
     sender: &SenderKey,
@@ -49,17 +28,13 @@ fn written(
 ) -> Result<Option<Vec<u8>>, RowFault>
     ensures { (kept : Option (List ℕ)) → ShowBody kept rows.now → IfOk result (IsAcknowledged office.now sender.now verdicts.now kept) }
 {
-    let [row] = rows else {
-        return Err(RowFault::Unread);
-    };
-    let row = TransmissionRow::from_row(row)?;
-    let transmission = read_body(alloc, row.body, sender)?;
+    let transmission = transmission_of(alloc, rows, sender)?;
     let text = write_ack(alloc, office, sender, &transmission, verdicts)?;
     Ok(Some(text))
 }
 
 // The acknowledgement of a sender's transmission with these verdicts.
-fn written_of<S: Alter>(
+fn acknowledgement_of<S: Alter>(
     alloc: Global,
     conn: &mut Idle<S>,
     office: &Office,
@@ -70,7 +45,7 @@ fn written_of<S: Alter>(
     ensures asked { between S.Store conn.old conn.new Asks result (ByBook (λ _ book text. IsAcknowledged office.now sender.now verdicts.now (body_at book sender.now number) text)) }
 {
     let rows = ask(conn, Question::Transmission(sender.as_bytes(), number))?;
-    written(alloc, office, sender, rows.as_slice(), verdicts)
+    acknowledgement_in(alloc, office, sender, rows.as_slice(), verdicts)
 }
 
 /// The acknowledgement of a sender's transmission at this office, none where its number is not in the sender's line.
@@ -86,7 +61,7 @@ pub fn ack_of<S: Alter>(
     let Some(verdicts) = verdicts_of(alloc, conn, sender.as_bytes(), number)? else {
         return Ok(None);
     };
-    written_of(
+    acknowledgement_of(
         alloc,
         conn,
         office,

@@ -75,7 +75,7 @@ pub fn known_end_of<S: Alter>(
     ensures asked { between S.Store conn.old conn.new Asks result (ByBook (λ _ book found. found ≡ end_known book sender.now (place_stated end.now) (end_stated end.now))) }
 {
     let stated = ends_of(conn, sender)?;
-    match stated.compared(end) {
+    match stated.known_end(end) {
         Known::Absent => free_segment(conn, sender, end),
         Known::Same => same_with_front(conn, sender),
         Known::Other => Ok(KnownEnd::Other),

@@ -8,9 +8,8 @@ ghost use Rattle.society_rows.specs.Effects.{Errs};
 ghost use Rattle.society_rows.specs.Questions.{Asks};
 ghost use Rattle.society_book.specs.BookRows.{end_of};
 ghost use Rattle.society_book.specs.Columns.{segment_place_at};
-ghost use Rattle.society_book.specs.EndLists.{end_listed, end_shown};
+ghost use Rattle.society_book.specs.EndLists.{end_listed, end_shown, ReadsEnds};
 ghost use Rattle.society_book.specs.Errors.{Blames};
-ghost use Rattle.society_book.specs.Going.{ReadsEnds};
 ghost use Rattle.society_book.specs.RightRows.{IsRightStated, KeepsUnsound};
 ghost use Rattle.society_book.specs.Steps.{LooksOpen};
 

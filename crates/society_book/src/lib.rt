@@ -1,18 +1,18 @@
-//! The office's book over a connection to its tables: what they answer, what a return writes, and what is noted of a run of transmissions.
+//! The office's book over a connection to its tables: what they answer, and what a return writes.
 //!
 //! Each call holds over the tables of layout 3 where the disk told the truth. Outside a transaction of the caller's, an error leaves the
 //! tables as they were.
 #![tactic(auto)]
 
 mod acknowledgements;
+mod bodies;
+mod columns;
 mod ends_known;
 mod ends_read;
 mod numbers;
 mod orders;
-mod outcomes;
 mod pools;
 mod returns;
-mod run;
 mod sender_ends;
 mod senders;
 mod skips;
@@ -20,13 +20,13 @@ mod standing;
 mod works;
 
 pub use acknowledgements::ack_of;
+pub use bodies::{read_body, transmission_of};
+pub use columns::{NO_ISRC, column_of, text_of};
 pub use ends_known::known_end_of;
 pub use ends_read::{ends_in, ends_of};
 pub use orders::known_pool_of;
-pub use outcomes::{Outcome, column_of, recording_rows, settle_run, verdict_rows, version_rows};
-pub use pools::{NO_ISRC, balance_of, pool_credits, text_of};
+pub use pools::{balance_of, pool_credits};
 pub use returns::{known_return_of, payment_of, write_return};
-pub use run::{Noted, Run, ascending_works, distinct_isrcs};
 pub use sender_ends::SenderEnds;
 pub use senders::{front_of, known_of, place_of, verdicts_of};
 pub use standing::status_of;

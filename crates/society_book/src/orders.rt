@@ -8,7 +8,7 @@ ghost use Rattle.society_book.specs.BookRows.{cut_key_of, kind_marked, return_ke
 ghost use Rattle.society_book.specs.Shown.{ByBook, ShowPool};
 ghost use Rattle.society_rows.specs.Between.{between};
 ghost use Rattle.society_book.specs.Items.{transmission_keys, return_keys};
-ghost use Rattle.society_book.specs.OrderShown.{AreReturnsOf, IsAmount, IsCutOf, IsKindOf, IsKnownByCut, IsKnownByKind};
+ghost use Rattle.society_book.specs.OrderShown.{AreReturnsOf, IsAmount, IsCutOf, IsKindOf};
 
 use share_rules::Kind;
 use society_core::{Known, OrderError, PoolOrder};
@@ -118,7 +118,7 @@ fn returns_of<S: Alter>(conn: &mut Idle<S>, pool: u32) -> Result<Vec<(Reporter, 
 }
 
 // Whether an amount, a kind, a cut and returns are an order's; `Unread` where they are no order's at all.
-fn compared(
+fn known_order(
     alloc: Global,
     amount: u64,
     kind: Kind,
@@ -141,42 +141,6 @@ fn compared(
     }
 }
 
-// Whether a pool of this amount, kind and cut was closed by an order.
-fn known_with_cut<S: Alter>(
-    conn: &mut Idle<S>,
-    pool: u32,
-    amount: u64,
-    kind: Kind,
-    cut: &[(SenderKey, u64)],
-    order: &PoolOrder,
-) -> Result<Known, RowFault>
-    ensures asked { between S.Store conn.old conn.new Asks result (ByBook (λ _ book known. IsKnownByCut pool amount kind cut.now order.now book known)) }
-{
-    let returns = returns_of(conn, pool)?;
-    compared(
-        *returns.allocator(),
-        amount,
-        kind,
-        cut,
-        returns.as_slice(),
-        order,
-    )
-}
-
-// Whether a pool of this amount and kind was closed by an order.
-fn known_with_kind<S: Alter>(
-    conn: &mut Idle<S>,
-    pool: u32,
-    amount: u64,
-    kind: Kind,
-    order: &PoolOrder,
-) -> Result<Known, RowFault>
-    ensures asked { between S.Store conn.old conn.new Asks result (ByBook (λ _ book known. IsKnownByKind pool amount kind order.now book known)) }
-{
-    let cut = cut_of(conn, pool)?;
-    known_with_cut(conn, pool, amount, kind, cut.as_slice(), order)
-}
-
 // Whether a pool of this amount was closed by an order.
 fn known_with_amount<S: Alter>(
     conn: &mut Idle<S>,
@@ -187,7 +151,16 @@ fn known_with_amount<S: Alter>(
     ensures asked { between S.Store conn.old conn.new Asks result (ByBook (λ _ book known. IsAmount pool book (Some amount) → known ≡ pool_known_as book pool order.now)) }
 {
     let kind = kind_of(conn, pool)?;
-    known_with_kind(conn, pool, amount, kind, order)
+    let cut = cut_of(conn, pool)?;
+    let returns = returns_of(conn, pool)?;
+    known_order(
+        *returns.allocator(),
+        amount,
+        kind,
+        cut.as_slice(),
+        returns.as_slice(),
+        order,
+    )
 }
 
 /// Whether the book has an order, another one under its pool, or none.

@@ -8,18 +8,15 @@ ghost use Rattle.society_core.specs.Pools.{balance};
 ghost use Rattle.society_rows.specs.Questions.{Asks};
 ghost use Rattle.society_book.specs.DerivedRows.{credits_to};
 ghost use Rattle.society_book.specs.Shown.{ByBook, IsFilled, ShowPool, ShowUnits, credit_in, credit_isrc};
-ghost use Rattle.work_ids.specs.Account.{account_text};
 ghost use Rattle.society_rows.specs.Between.{between};
 ghost use Rattle.society_book.specs.AnswersShown.{AreCredits};
 
+use crate::columns::{NO_ISRC, text_of};
 use pool_split::Credit;
 use society_rows::{BalanceRow, CreditRow, Idle, Question, RowFault, ask};
 use sqlite::{Alter, Row};
-use std::alloc::{AllocError, Global};
+use std::alloc::Global;
 use work_ids::{Account, Isrc};
-
-/// What stands in place of an ISRC where a credit is of no recording.
-pub const NO_ISRC: &[u8] = b"-";
 
 // The units that the rows of a balance show; `Unread` where they are more than one, or below 0.
 fn shown_units(rows: &[Row]) -> Result<u64, RowFault>
@@ -38,18 +35,6 @@ fn units_under<S: Alter>(conn: &mut Idle<S>, account: &[u8]) -> Result<u64, RowF
 {
     let rows = ask(conn, Question::Balance(account))?;
     shown_units(rows.as_slice())
-}
-
-/// The text of an account.
-pub fn text_of(alloc: Global, account: &Account) -> Result<Vec<u8>, AllocError>
-    ensures { IfOk result (λ text. text.items ≡ account_text account.now) }
-{
-    let (kind, owner, number) = account.pieces();
-    let mut text = Vec::new(alloc);
-    text.extend_from_slice(kind)?;
-    text.extend_from_slice(owner)?;
-    text.extend_from_slice(number)?;
-    Ok(text)
 }
 
 // Does nothing: it tells a proof how long the parts of an account are.
@@ -157,19 +142,6 @@ fn is_closed<S: Alter>(conn: &mut Idle<S>, pool: u32) -> Result<bool, RowFault>
     shown_closed(rows.as_slice())
 }
 
-// The credits of a pool, by whether it is closed.
-fn credits_where<S: Alter>(
-    alloc: Global,
-    conn: &mut Idle<S>,
-    pool: u32,
-    closed: bool,
-) -> Result<Option<Vec<Credit>>, RowFault>
-    ensures asked { between S.Store conn.old conn.new Asks result (ByBook (λ office book credits. closed ≡ is_some (order_at book pool) → AreCredits office book pool credits)) }
-{
-    let rows = ask(conn, Question::Credits(pool))?;
-    credits_in(alloc, rows.as_slice(), closed)
-}
-
 /// The credits of a pool, none where it is not closed.
 pub fn pool_credits<S: Alter>(
     alloc: Global,
@@ -179,5 +151,6 @@ pub fn pool_credits<S: Alter>(
     ensures asked { between S.Store conn.old conn.new Asks result (ByBook (λ office book credits. AreCredits office book pool credits)) }
 {
     let closed = is_closed(conn, pool)?;
-    credits_where(alloc, conn, pool, closed)
+    let rows = ask(conn, Question::Credits(pool))?;
+    credits_in(alloc, rows.as_slice(), closed)
 }

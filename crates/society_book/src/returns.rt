@@ -9,24 +9,19 @@ ghost use Rattle.society_rows.specs.Rows.{return_values};
 ghost use Rattle.society_book.specs.Shown.{ByBook, Changes, ReturnComes, ShowBody, ShowKey, ShowPayer, SurvivesChange};
 ghost use Rattle.society_rows.specs.Between.{between};
 
+use crate::bodies::compare_body;
 use society_core::{Known, Payment, ReturnKey};
 use society_rows::{Idle, PoolReturnRow, Question, ReturnRow, RowFault, add_return, ask};
 use sqlite::{Alter, Row};
 use work_ids::PoolNumber;
 
 // Whether the rows of a return show these bytes, others, or none; `Unread` where they are more than one.
-fn compared(rows: &[Row], body: &[u8]) -> Result<Known, RowFault>
+fn known_return_in(rows: &[Row], body: &[u8]) -> Result<Known, RowFault>
     ensures { (kept : Option (List ℕ)) → ShowBody kept rows.now → IfOk result (λ known. known ≡ known_by body.now kept) }
 {
     match rows {
         [] => Ok(Known::Absent),
-        [row] => {
-            if ReturnRow::from_row(row)?.body == body {
-                Ok(Known::Same)
-            } else {
-                Ok(Known::Other)
-            }
-        }
+        [row] => Ok(compare_body(ReturnRow::from_row(row)?.body, body)),
         _ => Err(RowFault::Unread),
     }
 }
@@ -43,7 +38,7 @@ pub fn known_return_of<S: Alter>(
         conn,
         Question::Return(key.reporter.as_bytes(), key.number.value()),
     )?;
-    compared(rows.as_slice(), body)
+    known_return_in(rows.as_slice(), body)
 }
 
 // Whether the keys of returns show one; `Unread` where they are more than one.

@@ -103,7 +103,7 @@ impl SenderEnds {
     }
 
     /// Whether the segment of an end has this end, another one, or none.
-    pub(crate) fn compared(&self, end: &SegmentEnd) -> Known
+    pub(crate) fn known_end(&self, end: &SegmentEnd) -> Known
         ensures { result ≡ end_known_by (end_stated end.now) (end_listed self.now (place_stated end.now)) }
     {
         match self.end_at(end.place()) {
@@ -128,7 +128,7 @@ impl SenderEnds {
     }
 
     /// The first rank behind the end of a rank's segment, where a front is not below that rank.
-    pub(crate) fn passed(&self, rank: u32, front: u32) -> Option<u32>
+    pub(crate) fn rank_passed_to(&self, rank: u32, front: u32) -> Option<u32>
         requires { rank ≤ greatest_rank }
         ensures value { result ≡ passed_to front (end_listed self.now (segment_of rank)) }
         ensures later { IfSome result (λ next. (rank < next) × (next ≤ greatest_rank)) }

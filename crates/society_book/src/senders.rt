@@ -10,6 +10,7 @@ ghost use Rattle.society_book.specs.Shown.{ByBook, ShowBody, ShowFront, verdict_
 ghost use Rattle.society_rows.specs.Between.{between};
 ghost use Rattle.society_book.specs.Items.{items_of};
 
+use crate::bodies::compare_body;
 use crate::ends_read::ends_of;
 use society_core::{Known, KnownTransmission, NumberPlace};
 use society_rows::{FrontRow, Idle, Question, RowFault, TransmissionRow, VerdictRow, ask};
@@ -38,24 +39,18 @@ pub fn front_of<S: Alter>(conn: &mut Idle<S>, sender: &[u8]) -> Result<u32, RowF
 }
 
 // Whether the rows of a transmission show these bytes, others, or none; `Unread` where they are more than one.
-fn compared(rows: &[Row], body: &[u8]) -> Result<Known, RowFault>
+fn known_transmission_in(rows: &[Row], body: &[u8]) -> Result<Known, RowFault>
     ensures { (kept : Option (List ℕ)) → ShowBody kept rows.now → IfOk result (λ known. known ≡ known_by body.now kept) }
 {
     match rows {
         [] => Ok(Known::Absent),
-        [row] => {
-            if TransmissionRow::from_row(row)?.body == body {
-                Ok(Known::Same)
-            } else {
-                Ok(Known::Other)
-            }
-        }
+        [row] => Ok(compare_body(TransmissionRow::from_row(row)?.body, body)),
         _ => Err(RowFault::Unread),
     }
 }
 
 // Whether the book has a transmission, another one under its number, or none.
-fn compared_with_kept<S: Alter>(
+fn known_at_number<S: Alter>(
     conn: &mut Idle<S>,
     sender: &[u8],
     number: u32,
@@ -64,7 +59,7 @@ fn compared_with_kept<S: Alter>(
     ensures asked { between S.Store conn.old conn.new Asks result (ByBook (λ _ book known. known ≡ known_as book sender.now number body.now)) }
 {
     let rows = ask(conn, Question::Transmission(sender, number))?;
-    compared(rows.as_slice(), body)
+    known_transmission_in(rows.as_slice(), body)
 }
 
 // Where a number stands at a front among the plain numbers: no end was passed, so all numbers up to the front are in the line.
@@ -147,7 +142,7 @@ pub fn known_of<S: Alter>(
 ) -> Result<KnownTransmission, RowFault>
     ensures asked { between S.Store conn.old conn.new Asks result (ByBook (λ _ book found. found ≡ transmission_known book sender.now number body.now)) }
 {
-    match compared_with_kept(conn, sender, number.value(), body)? {
+    match known_at_number(conn, sender, number.value(), body)? {
         Known::Absent => free_number(conn, sender, number),
         Known::Same => same_at_place(conn, sender, number),
         Known::Other => Ok(KnownTransmission::Other),

@@ -40,7 +40,7 @@ pub(crate) fn skips_to(
     ends.see_years();
     let mut skips = Vec::new(alloc);
     let mut first = 0;
-    'segments: while let Some(next) = ends.passed(first, front) {
+    'segments: while let Some(next) = ends.rank_passed_to(first, front) {
         let above = next_segment(first);
         if above < next {
             skips.push(Skip { above, below: next })?;

@@ -67,22 +67,6 @@ fn held_at<S: Alter>(
     Ok(list)
 }
 
-// How a sender stands that has come to a front.
-fn status_at<S: Alter>(
-    alloc: Global,
-    conn: &mut Idle<S>,
-    sender: &[u8],
-    reached: u32,
-) -> Result<SenderStatus, RowFault>
-    ensures asked { between S.Store conn.old conn.new Asks result (ByBook (λ _ book status. reached ≡ front book sender.now → IsStanding book sender.now status)) }
-{
-    let held = held_at(alloc, conn, sender, reached)?;
-    Ok(SenderStatus {
-        front: reached,
-        held,
-    })
-}
-
 /// How a sender stands: its front, and the numbers of its held transmissions, ascending.
 pub fn status_of<S: Alter>(
     alloc: Global,
@@ -91,6 +75,7 @@ pub fn status_of<S: Alter>(
 ) -> Result<SenderStatus, RowFault>
     ensures asked { between S.Store conn.old conn.new Asks result (ByBook (λ _ book status. IsStanding book sender.now status)) }
 {
-    let reached = front_of(conn, sender)?;
-    status_at(alloc, conn, sender, reached)
+    let front = front_of(conn, sender)?;
+    let held = held_at(alloc, conn, sender, front)?;
+    Ok(SenderStatus { front, held })
 }

@@ -1,26 +1,29 @@
 //! A work as its version at the front shows it.
-ghost use Rattle.std.specs.Prelude.{◌≡◌, [], List, ℕ, Option, IfOk, option_map};
+ghost use Rattle.std.specs.Prelude.{◌≡◌, [], List, ℕ, Option, IfErr, IfOk, option_map};
 ghost use Rattle.society_core.specs.Answers.{shown_in, shown_version};
 ghost use Rattle.society_core.specs.Book.{front, version_in};
 ghost use Rattle.society_core.specs.Requests.{shown_of};
 ghost use Rattle.society_rows.specs.Questions.{Asks};
+ghost use Rattle.society_book.specs.Errors.{Blames};
+ghost use Rattle.society_book.specs.Readable.{IsVersionRow};
 ghost use Rattle.society_book.specs.Shown.{ByBook, ByOwnBook, ShowBody, ShowVersion, version_shown};
 ghost use Rattle.works_core.specs.declared.version.WorkVersion.{WorkVersion as Version};
 ghost use Rattle.society_rows.specs.Between.{between};
 ghost use Rattle.society_book.specs.AnswersShown.{shown_of_kept};
 
-use crate::acknowledgements::read_body;
+use crate::bodies::transmission_of;
 use share_rules::Office;
 use society_core::{Work, show};
-use society_rows::{Idle, Question, RowFault, TransmissionRow, VersionRow, ask};
+use society_rows::{Idle, Question, RowFault, VersionRow, ask};
 use sqlite::{Alter, Row};
 use std::alloc::Global;
 use work_ids::{SenderKey, TransmissionNumber, WorkNumber};
 use works_core::WorkVersion;
 
-/// The version that a row is; `Unread` where it is none.
+/// The version that a row is; `Unread` where it is none, and only there.
 pub fn version_of(row: &Row) -> Result<WorkVersion, RowFault>
-    ensures { IfOk result (λ version. version ≡ version_shown row.now) }
+    ensures version { IfOk result (λ version. version ≡ version_shown row.now) }
+    ensures blames { IfErr result (Blames (IsVersionRow row.now → ⊥)) }
 {
     let row = VersionRow::from_row(row)?;
     let Some(transmission) = TransmissionNumber::from_u32(row.number) else {
@@ -69,7 +72,7 @@ fn version_at_front<S: Alter>(
 
 // What a version of a work shows, by the rows of its transmission; `Unread` where these are not one row, or its body is no
 // transmission of the sender.
-fn shown(
+fn work_in(
     alloc: Global,
     office: &Office,
     sender: &SenderKey,
@@ -79,11 +82,7 @@ fn shown(
 ) -> Result<Option<Work>, RowFault>
     ensures { (kept : Option (List ℕ)) → ShowBody kept rows.now → IfOk result (λ shown. option_map shown_of shown ≡ shown_of_kept office.now sender.now work.now version kept) }
 {
-    let [row] = rows else {
-        return Err(RowFault::Unread);
-    };
-    let row = TransmissionRow::from_row(row)?;
-    let transmission = read_body(alloc, row.body, sender)?;
+    let transmission = transmission_of(alloc, rows, sender)?;
     match transmission.transaction(version.place) {
         None => Ok(None),
         Some(transaction) => {
@@ -94,7 +93,7 @@ fn shown(
 }
 
 // What a version of a sender's work shows.
-fn shown_at<S: Alter>(
+fn work_of_version<S: Alter>(
     alloc: Global,
     conn: &mut Idle<S>,
     office: &Office,
@@ -108,7 +107,7 @@ fn shown_at<S: Alter>(
         conn,
         Question::Transmission(sender.as_bytes(), version.transmission.value()),
     )?;
-    shown(alloc, office, sender, work, version, rows.as_slice())
+    work_in(alloc, office, sender, work, version, rows.as_slice())
 }
 
 /// A sender's work at this office as its version at the sender's front shows it, none where it has none.
@@ -124,5 +123,5 @@ pub fn work_of<S: Alter>(
     let Some(version) = version_at_front(conn, sender, work)? else {
         return Ok(None);
     };
-    shown_at(alloc, conn, office, sender, work, version)
+    work_of_version(alloc, conn, office, sender, work, version)
 }

@@ -1,10 +1,10 @@
 -- What is written of a pool that is closed.
-use Rattle.std.specs.Prelude.{ℕ, ◌≡◌, ◌≢◌, Bool, List, [], ◌∷◌, ◌++◌, None, IsPermutation, bytes_eq, filter}
-use Rattle.std.specs.List.{AllByRecursion, list_any}
+use Rattle.std.specs.Prelude.{ℕ, ◌≡◌, ◌≢◌, Bool, List, [], ◌∷◌, ◌++◌, None, IsPermutation, bytes_eq, filter, pos, map}
+use Rattle.std.specs.List.{AllByRecursion, list_any, enumerate_from}
 use Rattle.sqlite_trees.specs.Tree.{Trees}
 use Rattle.sqlite_value.specs.Order.{Row}
 use Rattle.society_rows.specs.Layout as layout
-use Rattle.society_rows.specs.Layout.{all_tables}
+use Rattle.society_rows.specs.Layout.{all_tables, returns}
 use Rattle.society_rows.specs.Stored.{Adds, rows_in}
 use Rattle.pool_split.specs.declared.claim.Credit.{Credit}
 use Rattle.share_rules.specs.declared.kind.Kind.{Kind}
@@ -16,15 +16,34 @@ use Rattle.society_core.specs.Candidates.{ReachesCut}
 use Rattle.society_core.specs.Orders.{Order}
 use Rattle.society_core.specs.Points.{is_performance_of, rows_named}
 use Rattle.society_core.specs.Pools.{credits_of}
-use Rattle.society_book.specs.BookRows.{mechanical_row}
+use Rattle.society_book.specs.BookRows.{mechanical_row, cut_row, marks_of, paid_row, pool_row}
 use Rattle.society_book.specs.Sources.{HoldsWorks}
-use Rattle.society_book.specs.DerivedRows.{balance_rows_by}
+use Rattle.society_book.specs.DerivedRows.{balance_rows_by, credit_row}
 use Rattle.society_book.specs.Kept.{HoldsBook}
-use Rattle.society_book.specs.Shown.{AddsEach, AddsPool}
 use Rattle.society_closings.specs.CutWorks.{ListsWorks, wants_for}
 use Rattle.society_closings.specs.declared.works_by_recording.WorksByRecording.{WorksByRecording}
 use Rattle.sqlite.specs.Effect.{Database}
 use Rattle.work_ids.specs.Account.{account_text}
+use Rattle.society_rows.specs.Balances.{AddsUnits}
+
+-- the balances have the units of each credit more, one after another
+abbrev pub AddsEach : List Credit → Database → Database → Type 0
+AddsEach [] old new = new ≡ old
+AddsEach (credit ∷ credits) old new = (mid : Database) × AddsUnits (account_text credit.account) (pos credit.units) old mid × AddsEach credits mid new
+
+-- every table but those of the pools and of what they pay is as it was
+abbrev pub KeepsLines : Trees → Trees → Type 0
+KeepsLines old new =
+    AllByRecursion (λ t. t.tree ≢ layout.pools.tree → t.tree ≢ layout.pool_cuts.tree → t.tree ≢ layout.pool_returns.tree → t.tree ≢ layout.mechanical_pools.tree → t.tree ≢ layout.credits_table.tree → t.tree ≢ layout.balances.tree → new t.tree ≡ old t.tree) all_tables
+
+-- the tables have the rows of a pool more, with its cut, the returns that it pays, its marks and the lines of its credits; but for the balances the other tables are as they were
+pub record AddsPool (pool : ℕ) (order : Order) (paid_out : List Credit) (old new : Trees) : Type 0 where
+  pub pools : IsPermutation ((pool_row pool order ∷ []) ++ rows_in layout.pools old) (rows_in layout.pools new)
+  pub cuts : IsPermutation (map (cut_row pool) order.cut ++ rows_in layout.pool_cuts old) (rows_in layout.pool_cuts new)
+  pub paid : IsPermutation (map (paid_row pool) order.returns ++ rows_in layout.pool_returns old) (rows_in layout.pool_returns new)
+  pub marks : IsPermutation (marks_of pool order.kind ++ rows_in layout.mechanical_pools old) (rows_in layout.mechanical_pools new)
+  pub lines : IsPermutation (map (λ line. credit_row pool line.0 line.1) (enumerate_from 0 paid_out) ++ rows_in layout.credits_table old) (rows_in layout.credits_table new)
+  pub others : KeepsLines old new
 
 -- every table but those of an order is as it was
 abbrev pub KeepsUnordered : Trees → Trees → Type 0

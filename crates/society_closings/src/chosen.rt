@@ -15,38 +15,18 @@ ghost use Rattle.society_rows.specs.Between.{within};
 ghost use Rattle.society_rows.specs.Effects.{Errs};
 ghost use Rattle.society_book.specs.Errors.{Blames};
 ghost use Rattle.society_closings.specs.Blamed.{HoldNoWorks};
-ghost use Rattle.society_closings.specs.Readable.{IsVersionRow};
+ghost use Rattle.society_book.specs.Readable.{IsVersionRow};
 ghost use Rattle.std.specs.List.{AllByRecursion};
 ghost use Rattle.society_closings.specs.Choosing.{ChoosesMore, ChoosesWork, ChoosesWorks, IsVersionAtCut};
 
+use society_book::version_of;
 use society_core::TransmissionKey;
-use society_rows::{Question, RowFault, VersionRow, answer};
+use society_rows::{Question, RowFault, answer};
 use sqlite::{Alter, Row, Transaction};
 use std::alloc::{AllocError, Global};
 use std::collections::{BTreeMap, BTreeSet};
 use work_ids::{TransmissionNumber, WorkNumber};
 use works_core::WorkVersion;
-
-// The version that a row is; `Unread` where it is none, and only there.
-fn version_of(row: &Row) -> Result<WorkVersion, RowFault>
-    ensures version { IfOk result (λ version. version ≡ version_shown row.now) }
-    ensures blames { IfErr result (Blames (IsVersionRow row.now → ⊥)) }
-{
-    let row = VersionRow::from_row(row)?;
-    let Some(transmission) = TransmissionNumber::from_u32(row.number) else {
-        return Err(RowFault::Unread);
-    };
-    let (Ok(ordinal), Ok(revision)) = (u64::try_from(row.ordinal), u64::try_from(row.revision))
-    else {
-        return Err(RowFault::Unread);
-    };
-    Ok(WorkVersion {
-        transmission,
-        place: row.place as usize,
-        ordinal,
-        revision,
-    })
-}
 
 // The last of the versions that rows show whose transmission is up to a cut, none where all are above it; `Unread` where a
 // row shows none.

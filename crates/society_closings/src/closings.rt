@@ -3,10 +3,9 @@ ghost use Rattle.std.specs.Prelude.{◌≡◌, ◌∷◌, ◌++◌, [], map, unw
 ghost use Rattle.std.specs.List.{enumerate_from};
 ghost use Rattle.society_rows.specs.Rows.{credit_values, pool_cut_values, pool_return_values, pool_values};
 ghost use Rattle.society_book.specs.BookRows.{cut_row, marks_of, paid_row};
-ghost use Rattle.society_closings.specs.Closings.{AddsOrder, ClosesWith, Marks, PaysOut};
+ghost use Rattle.society_closings.specs.Closings.{AddsOrder, ClosesWith, Marks, PaysOut, AddsEach};
 ghost use Rattle.society_book.specs.DerivedRows.{credit_row};
 ghost use Rattle.work_ids.specs.Account.{account_text};
-ghost use Rattle.society_book.specs.Shown.{AddsEach};
 ghost use Rattle.society_book.specs.Steps.{Does, DoesOpen, Makes};
 ghost use Rattle.society_rows.specs.Between.{within};
 ghost use Rattle.society_book.specs.Items.{bytes_of_each, account_texts};
@@ -143,19 +142,6 @@ fn add_balances<S: Alter>(
     Ok(())
 }
 
-// Adds a pool with its cut.
-fn add_cut<S: Alter>(
-    tx: &mut Transaction<'_, S>,
-    pool: &PoolRow,
-    cuts: &[PoolCutRow<'_>],
-) -> Result<(), RowFault>
-    ensures same_reference { tx.new.conn.ghost_name ≡ tx.old.conn.ghost_name }
-    ensures does { within S.Store tx.old tx.new DoesOpen result (Makes (AddsOrder (pool_values pool.now) (map pool_cut_values cuts.now) [] [])) }
-{
-    add_pool(tx, pool)?;
-    add_pool_cuts(tx, cuts)
-}
-
 // Marks a pool as one of the mechanical right, where it pays this one.
 fn add_mark<S: Alter>(tx: &mut Transaction<'_, S>, pool: u32, kind: Kind) -> Result<(), RowFault>
     ensures same_reference { tx.new.conn.ghost_name ≡ tx.old.conn.ghost_name }
@@ -165,20 +151,6 @@ fn add_mark<S: Alter>(tx: &mut Transaction<'_, S>, pool: u32, kind: Kind) -> Res
         Kind::Performing => Ok(()),
         Kind::Mechanical => add_mechanical_pool(tx, &MechanicalPoolRow { pool }),
     }
-}
-
-// Adds a pool with its cut and the returns that it pays.
-fn add_paid<S: Alter>(
-    tx: &mut Transaction<'_, S>,
-    pool: &PoolRow,
-    cuts: &[PoolCutRow<'_>],
-    paid: &[PoolReturnRow<'_>],
-) -> Result<(), RowFault>
-    ensures same_reference { tx.new.conn.ghost_name ≡ tx.old.conn.ghost_name }
-    ensures does { within S.Store tx.old tx.new DoesOpen result (Makes (AddsOrder (pool_values pool.now) (map pool_cut_values cuts.now) (map pool_return_values paid.now) [])) }
-{
-    add_cut(tx, pool, cuts)?;
-    add_pool_returns(tx, paid)
 }
 
 // Adds what an order is: the pool, its cut, the returns that it pays, and its mark where it pays the mechanical right.
@@ -193,7 +165,9 @@ fn add_order<S: Alter>(
     ensures does { within S.Store tx.old tx.new DoesOpen result
         (Makes (AddsOrder (pool_values pool.now) (map pool_cut_values cuts.now) (map pool_return_values paid.now) (marks_of pool.now.pool kind))) }
 {
-    add_paid(tx, pool, cuts, paid)?;
+    add_pool(tx, pool)?;
+    add_pool_cuts(tx, cuts)?;
+    add_pool_returns(tx, paid)?;
     add_mark(tx, pool.pool, kind)
 }
 

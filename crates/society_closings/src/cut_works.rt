@@ -1,7 +1,6 @@
 //! The candidates for the recordings of a pool, out of the tables: the works of its cut, each by the version that it has there.
 ghost use Rattle.std.specs.Prelude.{◌≡◌, ◌+◌, None, IfErr, IfOk, OnOk};
-ghost use Rattle.cwr_files.specs.Contents.{transactions_of, transmission_in};
-ghost use Rattle.cwr_files.specs.FileFault.{file_fault};
+ghost use Rattle.cwr_files.specs.Contents.{transactions_of};
 ghost use Rattle.society_closings.specs.CutWorks.{works_chosen};
 ghost use Rattle.society_book.specs.Errors.{Blames};
 ghost use Rattle.society_book.specs.Steps.{Looks};
@@ -9,16 +8,17 @@ ghost use Rattle.society_core.specs.Points.{is_tallied};
 ghost use Rattle.society_rows.specs.Between.{within};
 ghost use Rattle.society_rows.specs.Effects.{Errs};
 ghost use Rattle.society_closings.specs.Blamed.{LackChosen, LackCut, LackNumber, LackSender, LackSenders};
-ghost use Rattle.society_closings.specs.Readable.{ShowTransmission};
+ghost use Rattle.society_book.specs.Readable.{ShowTransmission};
 ghost use Rattle.society_closings.specs.Choosing.{AddsWorks, AddsOfTransmission, AddsChosen, AddsOfSender, AreForCut, AreForOrder, AddsShown, work_chosen};
 
 use crate::chosen::{Chosen, chosen_of};
 use crate::named_works::NamedWorks;
 use crate::works_by_recording::WorksByRecording;
-use cwr_files::{ReadFault, Transaction, Transmission, read_transmission};
+use cwr_files::{Transaction, Transmission};
 use share_rules::{Kind, Office};
+use society_book::transmission_of;
 use society_core::{Candidate, PoolOrder, Tally, TransmissionKey, Weighing, add_candidates};
-use society_rows::{Question, RowFault, TransmissionRow, answer};
+use society_rows::{Question, RowFault, answer};
 use sqlite::{Alter, Row};
 use std::alloc::{AllocError, Global};
 use work_ids::{SenderKey, TransmissionNumber};
@@ -112,22 +112,6 @@ fn add_groups(
     Ok(())
 }
 
-// The transmission that a body is; `Unread` where it is none of the sender, and only there.
-fn transmission_of<'a>(
-    alloc: Global,
-    body: &'a [u8],
-    sender: &SenderKey,
-) -> Result<Transmission<'a>, RowFault>
-    ensures reads { IfOk result (λ transmission. transmission ≡ transmission_in body.now) }
-    ensures blames { IfErr result (Blames (file_fault sender.now body.now ≡ None → ⊥)) }
-{
-    match read_transmission(alloc, body, sender) {
-        Ok(transmission) => Ok(transmission),
-        Err(ReadFault::Memory) => Err(RowFault::Memory),
-        Err(ReadFault::File(_)) => Err(RowFault::Unread),
-    }
-}
-
 // Adds the candidates of the transmission that rows show; `Unread` where they are not one row, or its body is no transmission
 // of the sender.
 fn add_shown(
@@ -141,11 +125,7 @@ fn add_shown(
     ensures adds { AddsShown weighing.now rows.now sender.now number chosen.now candidates.old.items candidates.new.items result }
     ensures blames { IfErr result (Blames (ShowTransmission sender.now rows.now → ⊥)) }
 {
-    let [row] = rows else {
-        return Err(RowFault::Unread);
-    };
-    let row = TransmissionRow::from_row(row)?;
-    let transmission = transmission_of(weighing.alloc, row.body, sender)?;
+    let transmission = transmission_of(weighing.alloc, rows, sender)?;
     add_groups(weighing, sender, chosen, number, &transmission, candidates)
 }
 

@@ -1,5 +1,5 @@
 //! What pools look for: the works of their cuts' senders that name a recording that their returns report.
-ghost use Rattle.std.specs.Prelude.{◌≡◌, ◌||◌, List, ℕ, true, IfOk, OnOk, bytes_eq};
+ghost use Rattle.std.specs.Prelude.{◌≡◌, ◌||◌, List, ℕ, IfOk, OnOk, bytes_eq};
 ghost use Rattle.std.specs.BTreeSet.{contains};
 ghost use Rattle.std.specs.List.{list_any};
 ghost use Rattle.society_core.specs.Keys.{bytes_cmp};

@@ -12,7 +12,7 @@ use Rattle.std.specs.declared.cmp.Ordering.{Ordering}
 use Rattle.society_core.specs.Keys.{ascending, bytes_cmp}
 use Rattle.society_core.specs.Orders.{has_repeat}
 use Rattle.society_core.proofs.lemmas.Ascending.{ascending_has}
-use Rattle.society_book.specs.Runs.{is_key_among}
+use Rattle.society_arrivals.specs.Runs.{is_key_among}
 
 module _ {K : Type 0} {R : K → K → Ordering} (o : IsTotalOrder R) where
   abbrev marks : List K → finite.FinMap R Bool

@@ -14,7 +14,7 @@ use Rattle.society_rows.specs.Stored.{AreNumbered, rows_in}
 use Rattle.society_book.specs.BookRows.{book_of}
 use Rattle.society_book.specs.Columns.{HasRows}
 use Rattle.society_book.specs.DerivedRows.{front_rows, is_named, tells_recordings, tells_verdict, tells_version, told_to_front}
-use Rattle.society_book.specs.Shown.{KeepsUnlined}
+use Rattle.society_arrivals.specs.LineTables.{KeepsUnlined}
 use Rattle.society_book.specs.Sources.{HasEnds, KeepsBodies}
 use Rattle.society_book.proofs.lemmas.rows_alike.BookLemmas.{the_book}
 use Rattle.book_audit.specs.Audited.{IsRegistered}

@@ -8,9 +8,9 @@ use Rattle.sqlite_value.specs.Order.{Row}
 use Rattle.society_rows.specs.Layout as layout
 use Rattle.society_rows.specs.Layout.{all_tables, written_out}
 use Rattle.society_rows.specs.Stored.{put_over, rows_in}
-use Rattle.society_book.specs.Shown.{AddsTold, PutsLine}
-use Rattle.society_book.proofs.lemmas.lines.RunTables.{rows_kept, same_permutation}
-use Rattle.society_book.proofs.lemmas.lines.RunWrites.{KeptBut, KeptOfLines, KeptOfTold, both_of, each_of, permuted_from, permuted_to}
+use Rattle.society_arrivals.specs.LineTables.{AddsTold, PutsLine}
+use Rattle.society_book.proofs.lemmas.rows_alike.KeptTables.{rows_kept, same_permutation, KeptBut, both_of, each_of, permuted_from, permuted_to}
+use Rattle.society_arrivals.proofs.lemmas.RunWrites.{KeptOfLines, KeptOfTold}
 use Rattle.book_derivation.proofs.lemmas.Writes.{AddsRows, PutsRow}
 
 -- versions that were added, and then recordings

@@ -10,15 +10,15 @@ use Rattle.sender_segments.specs.Ways.{AreRight}
 use Rattle.society_core.specs.Book.{Book, ends_of}
 use Rattle.society_rows.specs.Rows.{front_values}
 use Rattle.society_rows.specs.declared.fronts.FrontRow.{FrontRow}
-use Rattle.society_book.specs.Arriving.{PutsOutcomes, SettlesRun}
+use Rattle.society_arrivals.specs.Arriving.{PutsOutcomes, SettlesRun}
 use Rattle.society_book.specs.DerivedRows.{Telling, tells_recordings, tells_verdict, tells_version, told_by, told_to_front, works_to}
-use Rattle.society_book.specs.Going.{IsWholeIn}
-use Rattle.society_book.specs.Outcomes.{settled}
-use Rattle.society_book.specs.Runs.{IsWhole, RunValue, Settled, behind_run, settled_recordings, settled_run, settled_verdict, settled_version}
-use Rattle.society_book.specs.declared.outcomes.Outcome.{Outcome}
+use Rattle.society_arrivals.specs.Going.{IsWholeIn}
+use Rattle.society_arrivals.specs.Outcomes.{settled}
+use Rattle.society_arrivals.specs.Runs.{IsWhole, RunValue, Settled, behind_run, settled_recordings, settled_run, settled_verdict, settled_version}
+use Rattle.society_arrivals.specs.declared.outcomes.Outcome.{Outcome}
 use Rattle.society_book.proofs.lemmas.lines.LineRows.{at_front, placed_over}
-use Rattle.society_book.proofs.lemmas.lines.RunLines.{IsSeen, run_behind, run_settled, sees_recordings, sees_verdict, sees_version}
-use Rattle.society_book.proofs.lemmas.lines.RunWrites.{puts_as}
+use Rattle.society_arrivals.proofs.lemmas.RunLines.{IsSeen, run_behind, run_settled, sees_recordings, sees_verdict, sees_version}
+use Rattle.society_arrivals.proofs.lemmas.RunWrites.{puts_as}
 use Rattle.book_audit.specs.LineSteps.{SettlesLine}
 use Rattle.book_derivation.specs.Lines.{PutsOwnLine, WritesLine}
 use Rattle.works_core.specs.Verdicts.{works_in}

@@ -19,11 +19,12 @@ use Rattle.society_rows.specs.Stored.{AreNumbered, put_over, rows_in, values_of}
 use Rattle.society_book.specs.Columns.{HasRows, text_at, text_of}
 use Rattle.society_book.specs.DerivedRows.{is_named, tells_recordings, tells_verdict, tells_version, told_to_front, works_to}
 use Rattle.society_book.specs.RightRows.{KeepsUnsound}
-use Rattle.society_book.specs.Runs.{is_key_among}
-use Rattle.society_book.specs.Shown.{KeepsUnlined}
+use Rattle.society_arrivals.specs.Runs.{is_key_among}
+use Rattle.society_arrivals.specs.LineTables.{KeepsUnlined}
 use Rattle.society_book.specs.Sources.{KeepsSent}
-use Rattle.society_book.proofs.lemmas.lines.RunTables.{AreOf, names_recordings, names_verdict, names_version, of_one, rows_kept, same_permutation, told_named}
-use Rattle.society_book.proofs.lemmas.lines.RunWrites.{KeptOfLines, both_of}
+use Rattle.society_arrivals.proofs.lemmas.RunTables.{AreOf, names_recordings, names_verdict, names_version, of_one, told_named}
+use Rattle.society_book.proofs.lemmas.rows_alike.KeptTables.{rows_kept, same_permutation, both_of}
+use Rattle.society_arrivals.proofs.lemmas.RunWrites.{KeptOfLines}
 use Rattle.society_book.proofs.lemmas.rows_alike.NamedRows.{HasName}
 use Rattle.society_book.proofs.lemmas.rows_alike.PutRows.{others_left}
 use Rattle.society_book.proofs.lemmas.rows_alike.RowLemmas.{all_rows, more_rows}

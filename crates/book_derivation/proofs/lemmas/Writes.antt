@@ -13,7 +13,7 @@ use Rattle.society_rows.specs.Effects.{BlamesMedium, Writes}
 use Rattle.society_rows.specs.Faults.{is_of_medium}
 use Rattle.society_rows.specs.Stored.{Adds, AreNumbered, HasLayout, KeepsOthers, Puts, put_over, rows_in}
 use Rattle.society_rows.specs.declared.fault.RowFault.{RowFault}
-use Rattle.society_book.proofs.lemmas.lines.RunWrites.{KeptBut, both_of}
+use Rattle.society_book.proofs.lemmas.rows_alike.KeptTables.{KeptBut, both_of}
 use Rattle.book_audit.specs.Examining.{AuditFaultSays, Never}
 use Rattle.book_audit.specs.declared.audit_fault.AuditFault.{AuditFault}
 use Rattle.book_audit.specs.declared.audit_fault.AuditFault.TheVariants as audit

@@ -1,14 +1,4 @@
--- A transmission that comes, or an end of a segment, and how far its sender's line goes on.
-pub mod Growth
+-- A sender's line, one transmission after another, and the senders that a book knows.
 pub mod LineRows
 pub mod KnownSenders
-pub mod HeldAdds
-pub mod RunFolds
-pub mod SegmentEnds
-pub mod RunTables
-pub mod RunLines
-pub mod OutcomeLemmas
-pub mod RunWrites
 pub mod RightRows
-pub mod RunBooks
-pub mod ArrivedRuns

@@ -5,7 +5,7 @@ use Rattle.std.specs.FinMap as finite
 use Rattle.std.specs.FinMap.{IsAntisymmetric}
 use Rattle.std.specs.List.{AllByRecursion, list_any}
 use Rattle.std.specs.Ordering.{eq_by_cmp}
-use Rattle.std.proofs.lemmas.Bool.{false≢true}
+use Rattle.std.proofs.lemmas.Bool.{false≢true, or_left, or_right}
 use Rattle.std.proofs.lemmas.Bool.Decides.{Decides-eqb}
 use Rattle.std.proofs.lemmas.Cmp.{nat_list_cmp_total}
 use Rattle.std.proofs.lemmas.Map.Lookups.{exact_bytes}
@@ -25,13 +25,13 @@ use Rattle.book_audit.specs.Entries.{HoldsEntries, senders_in}
 use Rattle.society_book.specs.BookRows.{book_of, end_entry, is_end_row, is_transmission_row, segment_key_of, transmission_entry, transmission_key_of}
 use Rattle.society_book.specs.Columns.{segment_place_at, text_at, whole_number_at}
 use Rattle.society_book.specs.DerivedRows.{has_sent, has_stated, knows_sender}
-use Rattle.society_book.specs.Runs.{is_key_among}
+use Rattle.society_arrivals.specs.Runs.{is_key_among}
 use Rattle.society_book.proofs.lemmas.shown.AskLemmas.{first_true}
 use Rattle.society_book.proofs.lemmas.rows_alike.BookLemmas.{segments_tie, transmissions_tie}
-use Rattle.society_book.proofs.lemmas.lines.KnownSenders.{has_of, has_there, is_or, key_there, or_is}
+use Rattle.society_book.proofs.lemmas.lines.KnownSenders.{has_of, has_there, key_there}
 use Rattle.society_book.proofs.lemmas.rows_alike.KeyRows.{same_truth}
 use Rattle.society_book.proofs.lemmas.rows_alike.RowLemmas.{first_value, found_first}
-use Rattle.society_book.proofs.lemmas.lines.RunLines.{among_ascending}
+use Rattle.society_arrivals.proofs.lemmas.RunLines.{among_ascending}
 
 -- what is kept of rows has a first one where one of them is kept
 first_kept : {K X : Type 0} (entry : Row → K × X) (p : Row → Bool) (rows : List Row) → is_some (first_value entry (filter p rows)) ≡ list_any p rows
@@ -54,8 +54,8 @@ module _ {K X : Type 0} {R : K → K → Ordering} (total : IsTotalOrder R) (exa
   key_named q (r ∷ rs) h = by_case (is_of q r) refl h (key_named q rs)
     where
       by_case : (t : Bool) → is_of q r ≡ t → (t || list_any (is_of q) rs) ≡ true → (list_any (is_of q) rs ≡ true → is_key_among (names rs) (sender_of q) ≡ true) → (bytes_eq (text_at 0 r) (sender_of q) || is_key_among (names rs) (sender_of q)) ≡ true
-      by_case true is h later = is_or (bytes_eq (text_at 0 r) (sender_of q)) (is_key_among (names rs) (sender_of q)) ((bytes_eq-Decides (text_at 0 r) (sender_of q)).1 (sym (named q r is)))
-      by_case false is h later = or_is (bytes_eq (text_at 0 r) (sender_of q)) (is_key_among (names rs) (sender_of q)) (later h)
+      by_case true is h later = or_left (bytes_eq (text_at 0 r) (sender_of q)) (is_key_among (names rs) (sender_of q)) ((bytes_eq-Decides (text_at 0 r) (sender_of q)).1 (sym (named q r is)))
+      by_case false is h later = or_right (bytes_eq (text_at 0 r) (sender_of q)) (is_key_among (names rs) (sender_of q)) (later h)
 
   -- a key of a sender under which there is a row
   record HasKey (s : List ℕ) (rs : List Row) : Type 0 where
@@ -72,9 +72,9 @@ module _ {K X : Type 0} {R : K → K → Ordering} (total : IsTotalOrder R) (exa
       by_case true is h later = record {
         key = (entry r).0;
         of = its r ∙ (bytes_eq-Decides (text_at 0 r) s).0 is;
-        there = is_or (is_of (entry r).0 r) (list_any (is_of (entry r).0) rs) (own r);
+        there = or_left (is_of (entry r).0 r) (list_any (is_of (entry r).0) rs) (own r);
       }
-      by_case false is h later = let found = later h in record { key = found.key; of = found.of; there = or_is (is_of found.key r) (list_any (is_of found.key) rs) found.there }
+      by_case false is h later = let found = later h in record { key = found.key; of = found.of; there = or_right (is_of found.key r) (list_any (is_of found.key) rs) found.there }
 
   abbrev those : finite.FinMap R X
   those = finite.from_entries {R = R} (map entry rows)
@@ -94,8 +94,8 @@ module _ {K X : Type 0} {R : K → K → Ordering} (total : IsTotalOrder R) (exa
 each_among : (xs ys : List (List ℕ)) → ((s : List ℕ) → is_key_among xs s ≡ true → is_key_among ys s ≡ true) → AllByRecursion (λ s. is_key_among ys s ≡ true) xs
 each_among [] ys all = tt
 each_among (x ∷ xs) ys all = (
-  all x (is_or (bytes_eq x x) (is_key_among xs x) ((bytes_eq-Decides x x).1 refl)),
-  each_among xs ys (λ s h. all s (or_is (bytes_eq x s) (is_key_among xs s) h)),
+  all x (or_left (bytes_eq x x) (is_key_among xs x) ((bytes_eq-Decides x x).1 refl)),
+  each_among xs ys (λ s h. all s (or_right (bytes_eq x s) (is_key_among xs s) h)),
 )
 
 among_either : (xs ys : List (List ℕ)) (s : List ℕ) → is_key_among (xs ++ ys) s ≡ (is_key_among xs s || is_key_among ys s)

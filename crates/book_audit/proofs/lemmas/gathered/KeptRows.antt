@@ -3,10 +3,9 @@ use Rattle.std.proofs.Common.{◌≡◌, ◌∙◌, ◌≤◌, ◌||◌, Bool, t
 use Rattle.std.specs.Cmp.{IsTotalOrder}
 use Rattle.std.specs.FinMap as finite
 use Rattle.std.specs.List.{AllByRecursion, list_any}
-use Rattle.std.specs.Ordering.{eq_by_cmp}
+use Rattle.std.specs.Ordering.{eq_by_cmp, is_eq}
 use Rattle.std.proofs.lemmas.Bool.{false≢true}
 use Rattle.sqlite_value.specs.Order.{Row}
-use Rattle.std.specs.Ordering.{is_eq}
 use Rattle.std.specs.declared.cmp.Ordering.TheVariants.{Less, Equal, Greater}
 use Rattle.std.proofs.lemmas.Map.Lookups.{CmpEqualImpliesEq}
 use Rattle.sqlite_keyed.proofs.ListLemmas.{all-filter}
@@ -14,7 +13,7 @@ use Rattle.society_book.specs.BookRows.{row_of_some}
 use Rattle.society_book.specs.Columns.{HasRows}
 use Rattle.society_book.proofs.lemmas.rows_alike.BookLemmas.{filter_true}
 use Rattle.society_book.proofs.lemmas.rows_alike.RowLemmas.{first_value, found_first}
-use Rattle.society_book.proofs.lemmas.lines.RunTables.{same_permutation}
+use Rattle.society_book.proofs.lemmas.rows_alike.KeptTables.{same_permutation}
 
 tied : (r : Ordering) → is_eq r ≡ true → r ≡ Equal
 tied Less h = absurd (false≢true h)

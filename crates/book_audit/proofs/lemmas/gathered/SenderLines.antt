@@ -17,8 +17,8 @@ use Rattle.society_rows.specs.Layout as layout
 use Rattle.society_rows.specs.Stored.{rows_in}
 use Rattle.society_book.specs.Columns.{HasRows, text_at, text_of}
 use Rattle.society_book.specs.DerivedRows.{front_rows, is_named, knows_sender, tells_recordings, tells_verdict, tells_version, told_to_front, works_to}
-use Rattle.society_book.specs.Runs.{is_key_among}
-use Rattle.society_book.proofs.lemmas.rows_alike.Equals.{texts_equal}
+use Rattle.society_arrivals.specs.Runs.{is_key_among}
+use Rattle.society_rows.proofs.lemmas.readings.KeyEquality.{text_equal}
 use Rattle.society_book.proofs.lemmas.rows_alike.KeyRows.{last_truth}
 use Rattle.book_audit.specs.Auditing.{AreLinesOf, AreNamed, AreSenders, HasLine, is_text, of_sender}
 use Rattle.book_audit.proofs.lemmas.lines.Strangers.{nothing_told, unknown_front}
@@ -35,7 +35,7 @@ text_form Null is = absurd (false≢true is)
 same_sender : (senders : List (List ℕ)) (s : List ℕ) (rows : List Row) → AreNamed senders rows → AllByRecursion (λ row. of_sender s row ≡ is_named s row) rows
 same_sender senders s [] named = tt
 same_sender senders s (row ∷ rows) named = (
-  last_truth (equal Binary (column row 0) (Text s)) ∙ ap (λ v. equal Binary v (Text s)) (text_form (column row 0) named.0.0) ∙ texts_equal (text_at 0 row) s,
+  last_truth (equal Binary (column row 0) (Text s)) ∙ ap (λ v. equal Binary v (Text s)) (text_form (column row 0) named.0.0) ∙ text_equal (text_at 0 row) s,
   same_sender senders s rows named.1,
 )
 

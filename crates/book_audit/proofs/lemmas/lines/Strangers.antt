@@ -30,7 +30,7 @@ use Rattle.society_rows.specs.declared.line_senders.LineTable.{LineTable}
 use Rattle.society_book.specs.Columns.{HasRows, text_at, text_of}
 use Rattle.society_book.specs.DerivedRows.{Telling, front_rows, has_sent, has_stated, is_named, knows_sender, tells_recordings, tells_verdict, tells_version, told_by, told_to_front, works_to}
 use Rattle.society_book.specs.Kept.{HoldsBook}
-use Rattle.society_book.specs.Runs.{is_key_among}
+use Rattle.society_arrivals.specs.Runs.{is_key_among}
 use Rattle.society_book.proofs.lemmas.lines.KnownSenders.{key_there, sent_there}
 use Rattle.society_book.proofs.lemmas.rows_alike.KeyRows.{either_way}
 use Rattle.society_book.proofs.lemmas.rows_alike.RowLemmas.{all_rows}

@@ -22,8 +22,7 @@ use Rattle.society_rows.specs.Layout as layout
 use Rattle.society_rows.specs.Reads.{Lists, ListsKeys, has_key}
 use Rattle.society_book.specs.BookRows.{return_row, row_of_some}
 use Rattle.society_book.specs.DerivedRows.{front_rows, knows_sender, works_to}
-use Rattle.society_book.specs.EndLists.{end_listed}
-use Rattle.society_book.specs.Going.{ReadsEnds}
+use Rattle.society_book.specs.EndLists.{end_listed, ReadsEnds}
 use Rattle.society_book.specs.Shown.{ShowFront}
 use Rattle.society_book.proofs.lemmas.rows_alike.BookLemmas.{IsRefilled}
 use Rattle.society_book.proofs.lemmas.rows_alike.KeyRows.{return_listed}

@@ -1,7 +1,7 @@
 use Rattle.std.proofs.Common.{◌∙◌, ◌||◌, ◌+◌, [], IsTrue, List, ℕ, ap, bytes_eq, refl, subst, sym, take, arith}
 use Rattle.std.proofs.lemmas.List.Folds.{list_any_more}
-use Rattle.society_book.specs.Runs.{is_key_among}
-use Rattle.society_book.proofs.lemmas.lines.RunLines.{ends_less}
+use Rattle.society_arrivals.specs.Runs.{is_key_among}
+use Rattle.society_arrivals.proofs.lemmas.RunLines.{ends_less}
 use Rattle.book_audit.proofs.lines.end_of_none.Goals as goal
 
 pub loop-work-preserved : goal.loop-work-preserved

@@ -1,5 +1,5 @@
 use Rattle.std.proofs.Common.{[], take}
-use Rattle.society_book.specs.Runs.{is_key_among}
+use Rattle.society_arrivals.specs.Runs.{is_key_among}
 use Rattle.book_audit.proofs.lines.end_of_none.Given as goal
 use Rattle.works_core.specs.Ends.{EndsAt}
 

@@ -1,7 +1,7 @@
 use Rattle.sqlite.specs.Held.{state}
 use Rattle.society_core.proofs.lemmas.Books.{sound_order}
 use Rattle.society_book.specs.BookRows.{book_of}
-use Rattle.society_book.specs.Going.{IsWholeIn}
+use Rattle.society_arrivals.specs.Going.{IsWholeIn}
 use Rattle.society_book.specs.RightRows.{KeepsUnsound}
 use Rattle.book_audit.proofs.lemmas.Examinations.{examines_then}
 use Rattle.book_audit.specs.Auditing.{HasRun}

@@ -5,8 +5,8 @@ use Rattle.sqlite.specs.Held.{state}
 use Rattle.society_rows.specs.Layout as layout
 use Rattle.society_rows.specs.Rows.{recording_values}
 use Rattle.society_rows.specs.declared.recordings.RecordingRow.{RecordingRow}
-use Rattle.society_book.specs.Outcomes.{settled}
-use Rattle.society_book.specs.Runs.{settled_recordings}
+use Rattle.society_arrivals.specs.Outcomes.{settled}
+use Rattle.society_arrivals.specs.Runs.{settled_recordings}
 use Rattle.book_audit.proofs.lemmas.lines.WantedRows.{exact_rows, in_some_order, the_ok}
 use Rattle.book_audit.proofs.lines.recordings_agree.Goals as goal
 

@@ -1,6 +1,6 @@
 use Rattle.std.proofs.Common.{List, subst, sym}
 use Rattle.sqlite.specs.Held.{state}
-use Rattle.society_book.specs.declared.outcomes.Outcome.{Outcome}
+use Rattle.society_arrivals.specs.declared.outcomes.Outcome.{Outcome}
 use Rattle.society_rows.specs.Rows.{front_values}
 use Rattle.book_audit.specs.Auditing.{HasOutcomes, HasRun}
 use Rattle.book_audit.specs.LineSteps.{SettlesLine}

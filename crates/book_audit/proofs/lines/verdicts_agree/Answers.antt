@@ -5,8 +5,8 @@ use Rattle.sqlite_keyed.proofs.ListLemmas.{IsPermutation-same}
 use Rattle.society_rows.specs.Layout as layout
 use Rattle.society_rows.specs.Rows.{verdict_values}
 use Rattle.society_rows.specs.declared.verdicts.VerdictRow.{VerdictRow}
-use Rattle.society_book.specs.Outcomes.{settled}
-use Rattle.society_book.specs.Runs.{settled_verdict}
+use Rattle.society_arrivals.specs.Outcomes.{settled}
+use Rattle.society_arrivals.specs.Runs.{settled_verdict}
 use Rattle.book_audit.proofs.lemmas.lines.WantedRows.{exact_rows, in_some_order, the_ok}
 use Rattle.book_audit.proofs.lines.verdicts_agree.Goals as goal
 

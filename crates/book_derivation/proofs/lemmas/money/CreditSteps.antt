@@ -23,11 +23,10 @@ use Rattle.society_book.specs.BookRows.{is_return_row, is_transmission_row, retu
 use Rattle.society_book.specs.Columns.{HasRows, text_at}
 use Rattle.society_book.specs.DerivedRows.{is_named, tells_recordings, tells_version, told_to_front}
 use Rattle.society_book.specs.Sources.{HoldsWorks}
-use Rattle.society_book.proofs.lemmas.lines.RunTables.{rows_kept}
+use Rattle.society_book.proofs.lemmas.rows_alike.KeptTables.{rows_kept}
 use Rattle.society_closings.specs.Blamed.{CannotPayAmong}
-use Rattle.society_closings.specs.Closings.{ListsOrder, PaysAmong}
+use Rattle.society_closings.specs.Closings.{ListsOrder, PaysAmong, is_reported}
 use Rattle.society_closings.specs.CutWorks.{IsListed, wants_for}
-use Rattle.society_closings.specs.Closings.{is_reported}
 use Rattle.society_closings.specs.declared.works_by_recording.WorksByRecording.{WorksByRecording}
 use Rattle.book_audit.specs.Balances.{ComesTo}
 use Rattle.book_audit.specs.Credits.{credit_lines}

@@ -27,7 +27,7 @@ use Rattle.society_book.specs.Columns.{HasRows, whole_number_at}
 use Rattle.society_book.specs.DerivedRows.{credit_row, credit_rows, credit_rows_by, front_rows, is_named, tells_recordings, tells_verdict, tells_version, told_to_front}
 use Rattle.society_book.specs.Kept.{HoldsOwnBook}
 use Rattle.society_book.specs.Sources.{HoldsWorks}
-use Rattle.society_book.proofs.lemmas.lines.RunTables.{rows_kept}
+use Rattle.society_book.proofs.lemmas.rows_alike.KeptTables.{rows_kept}
 use Rattle.society_book.proofs.lemmas.rows_alike.BookLemmas.{numbers_tie}
 use Rattle.book_audit.specs.Balances.{HasBalances}
 use Rattle.book_audit.specs.Credits.{credit_lines}

@@ -1,11 +1,11 @@
 use Rattle.std.proofs.Common.{◌≡◌, List, Ok, subst, sym}
 use Rattle.sqlite.specs.Held.{state}
 use Rattle.society_rows.specs.Rows.{front_values}
-use Rattle.society_book.specs.Arriving.{PutsOutcomes}
-use Rattle.society_book.specs.Going.{IsWholeIn}
+use Rattle.society_arrivals.specs.Arriving.{PutsOutcomes}
+use Rattle.society_arrivals.specs.Going.{IsWholeIn}
 use Rattle.society_book.specs.RightRows.{KeepsUnsound}
-use Rattle.society_book.specs.Runs.{RunValue}
-use Rattle.society_book.specs.declared.outcomes.Outcome.{Outcome}
+use Rattle.society_arrivals.specs.Runs.{RunValue}
+use Rattle.society_arrivals.specs.declared.outcomes.Outcome.{Outcome}
 use Rattle.book_audit.specs.Examining.{Never}
 use Rattle.book_audit.specs.LineSteps.{SettlesLine}
 use Rattle.book_derivation.proofs.lemmas.Derivings.{derives_examined, derives_then}

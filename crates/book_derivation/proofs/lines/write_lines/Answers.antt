@@ -3,7 +3,7 @@ use Rattle.std.proofs.lemmas.List.{take_all}
 use Rattle.std.proofs.lemmas.List.Folds.{list_any_more}
 use Rattle.sqlite.specs.Held.{state}
 use Rattle.society_book.specs.RightRows.{KeepsUnsound}
-use Rattle.society_book.specs.Runs.{is_key_among}
+use Rattle.society_arrivals.specs.Runs.{is_key_among}
 use Rattle.book_derivation.proofs.lemmas.Apart.{not_before}
 use Rattle.book_derivation.proofs.lemmas.Derivings.{derives_also, derives_not, derives_nothing, derives_then}
 use Rattle.book_derivation.proofs.lemmas.SoFar.{WritesSome, unsound_kept, writes_all, writes_more, writes_none}

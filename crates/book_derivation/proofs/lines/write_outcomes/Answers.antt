@@ -6,10 +6,10 @@ use Rattle.society_rows.specs.Rows.{front_values, recording_values, verdict_valu
 use Rattle.society_rows.specs.declared.recordings.RecordingRow.{RecordingRow}
 use Rattle.society_rows.specs.declared.verdicts.VerdictRow.{VerdictRow}
 use Rattle.society_rows.specs.declared.versions.VersionRow.{VersionRow}
-use Rattle.society_book.specs.Arriving.{PutsOutcomes}
-use Rattle.society_book.specs.Outcomes.{settled}
-use Rattle.society_book.specs.Runs.{settled_recordings, settled_verdict, settled_version}
-use Rattle.society_book.specs.Shown.{PutsLine}
+use Rattle.society_arrivals.specs.Arriving.{PutsOutcomes}
+use Rattle.society_arrivals.specs.Outcomes.{settled}
+use Rattle.society_arrivals.specs.Runs.{settled_recordings, settled_verdict, settled_version}
+use Rattle.society_arrivals.specs.LineTables.{PutsLine}
 use Rattle.book_audit.specs.Examining.{Never}
 use Rattle.book_audit.proofs.lemmas.lines.WantedRows.{the_ok}
 use Rattle.book_derivation.proofs.lemmas.Derivings.{derives_also}

@@ -4,7 +4,7 @@ use Rattle.sqlite.specs.State.{State, Survives}
 use Rattle.sqlite_trees.specs.Tree.{Trees}
 use Rattle.society_rows.specs.Stored.{HasLayout}
 use Rattle.society_book.specs.Shown.{AddsAlone}
-use Rattle.society_book.specs.Steps.{Arrives, ArrivesTo}
+use Rattle.society_arrivals.specs.Arrivals.{Arrives, ArrivesTo}
 use Rattle.society_book.proofs.lemmas.together.AloneLemmas.{alone_done, alone_survives, at_end}
 use Rattle.society_arrivals.proofs.arrivals.arrive.Goals as goal
 

@@ -4,8 +4,8 @@ use Rattle.sqlite.specs.Held.{state}
 use Rattle.society_core.proofs.lemmas.Stores.{transmission_entry}
 use Rattle.society_core.specs.Answers.{place_by}
 use Rattle.society_core.specs.declared.store.NumberPlace.{NumberPlace}
-use Rattle.society_book.specs.Arriving.{ArrivesBy, ArrivesWith, TakesRun}
-use Rattle.society_book.proofs.lemmas.lines.ArrivedRuns.{arrives_with}
+use Rattle.society_arrivals.specs.Arriving.{ArrivesBy, ArrivesWith, TakesRun}
+use Rattle.society_arrivals.proofs.lemmas.ArrivedRuns.{arrives_with}
 use Rattle.society_book.proofs.lemmas.together.StepLemmas.{does_as, does_open_then, does_then}
 use Rattle.society_arrivals.proofs.arrivals.arrive_inside.Goals as goal
 
@@ -23,7 +23,7 @@ returns-clause-does g c =
     let new = state g.S.Store c.take_run.new.tx.conn.now in
     let entry = transmission_entry s n body c.as_bytes.ensures.key c.value-number.ensures.number c.requires.right in
     let place : NumberPlace = place_by run.reached (nat_lt reached.front run.reached) in
-    let is : place ≡ place_by c.reached.result (nat_lt reached.front c.reached-2.result) = ap₂ place_by (sym c.reached.ensures) (ap (nat_lt reached.front) (sym c.reached-2.ensures)) in
+    let is : place ≡ place_by c.front.result (nat_lt reached.front c.front-2.result) = ap₂ place_by (sym c.front.ensures) (ap (nat_lt reached.front) (sym c.front-2.ensures)) in
     does_open_then old mid new reached (Ok _) _ (λ before after y. ArrivesBy o s n body reached.front before.trees run × TakesRun s n body reached.works run before.trees after.trees × (y ≡ place)) _ (rw c.as_bytes.ensures.bytes at c.in_ok-reached.ensures.looks)
     (does_as mid new tt (Ok _) (λ before after _. ArrivesBy o s n body reached.front before.trees run × TakesRun s n body reached.works run before.trees after.trees) (λ before after y. ArrivesBy o s n body reached.front before.trees run × TakesRun s n body reached.works run before.trees after.trees × (y ≡ place))
     (does_then mid later new run (Ok tt) _ (λ before after _. TakesRun s n body reached.works run before.trees after.trees) _ c.in_ok-run.ensures.looks c.in_ok-take_run.ensures.does

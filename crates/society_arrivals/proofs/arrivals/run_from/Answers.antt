@@ -1,6 +1,6 @@
 use Rattle.std.proofs.Common.{◌≡◌, ◌+◌, Ok, arith}
 use Rattle.sqlite.specs.Held.{state}
-use Rattle.society_book.proofs.lemmas.lines.ArrivedRuns.{held_arrives, next_arrives}
+use Rattle.society_arrivals.proofs.lemmas.ArrivedRuns.{held_arrives, next_arrives}
 use Rattle.society_book.proofs.lemmas.together.StepLemmas.{does_also, nothing}
 use Rattle.society_arrivals.proofs.arrivals.run_from.Goals as goal
 

@@ -1,7 +1,8 @@
 use Rattle.std.proofs.Common.{Ok}
 use Rattle.sqlite.specs.Held.{state}
-use Rattle.society_book.specs.Going.{ReadsEnds, RunsOn, RunsOver}
-use Rattle.society_book.proofs.lemmas.lines.ArrivedRuns.{begins_run}
+use Rattle.society_book.specs.EndLists.{ReadsEnds}
+use Rattle.society_arrivals.specs.Going.{RunsOn, RunsOver}
+use Rattle.society_arrivals.proofs.lemmas.ArrivedRuns.{begins_run}
 use Rattle.society_book.proofs.lemmas.together.StepLemmas.{looks_as, looks_then}
 use Rattle.society_arrivals.proofs.arrivals.run_with.Goals as goal
 

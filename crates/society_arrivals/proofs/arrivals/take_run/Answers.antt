@@ -1,9 +1,9 @@
 use Rattle.sqlite.specs.Held.{state}
 use Rattle.society_core.proofs.lemmas.Books.{sound_with}
-use Rattle.society_book.proofs.lemmas.lines.HeldAdds.{fits, next_order}
+use Rattle.society_arrivals.proofs.lemmas.HeldAdds.{fits, next_order}
 use Rattle.society_book.proofs.lemmas.lines.KnownSenders.{knows_sent}
-use Rattle.society_book.proofs.lemmas.lines.RunBooks.{lined_by}
-use Rattle.society_book.proofs.lemmas.lines.RunTables.{sent_added}
+use Rattle.society_arrivals.proofs.lemmas.RunBooks.{lined_by}
+use Rattle.society_arrivals.proofs.lemmas.RunTables.{sent_added}
 use Rattle.society_book.proofs.lemmas.together.StepLemmas.{does_of, does_then}
 use Rattle.society_arrivals.proofs.arrivals.take_run.Goals as goal
 

@@ -1,8 +1,8 @@
 use Rattle.std.proofs.Common.{◌≡◌, ◌∙◌, ℕ, Err, Ok, Some, ap, arith, refl, sym}
 use Rattle.sqlite.specs.Held.{state}
 use Rattle.society_book.specs.EndLists.{behind_end, end_listed}
-use Rattle.society_book.specs.Going.{RunsOn, RunsPast}
-use Rattle.society_book.proofs.lemmas.lines.SegmentEnds.{past_all, past_more, past_none}
+use Rattle.society_arrivals.specs.Going.{RunsOn, RunsPast}
+use Rattle.society_arrivals.proofs.lemmas.SegmentEnds.{past_all, past_more, past_none}
 use Rattle.society_book.specs.RightRows.{KeepsUnsound}
 use Rattle.society_book.proofs.lemmas.together.ErrLemmas.{errs_on, errs_then}
 use Rattle.society_book.proofs.lemmas.together.StepLemmas.{looks_as, looks_then, nothing}
@@ -35,7 +35,7 @@ segments-preserved g c =
     let mid = state g.S.Store c.segments.tx.conn.now in
     let new = state g.S.Store c.go_on.new.tx.conn.now in
     let is : behind_end (base_of (segment_of rank)) run.reached (end_listed ends (segment_of rank)) ≡ Some next =
-    ap (λ (k : ℕ). behind_end (base_of (segment_of rank)) k (end_listed ends (segment_of rank))) (sym c.reached.ensures) ∙ sym c.behind.ensures.value ∙ c.in-Some.is in
+    ap (λ (k : ℕ). behind_end (base_of (segment_of rank)) k (end_listed ends (segment_of rank))) (sym c.front.ensures) ∙ sym c.behind.ensures.value ∙ c.in-Some.is in
     record {
       limit = c.in-Some.ensures.later.1;
       same_reference = c.in_ok-go_on.ensures.same_reference ∙ c.segments.invariant.same_reference;
@@ -54,7 +54,7 @@ returns-clause-looks g c =
     let ends = c.args.ends.now in
     looks_as (state g.S.Store c.args.tx.now.conn.now) (state g.S.Store c.segments.tx.conn.now) tt (Ok tt) _ _ c.segments.invariant.looks
     (past_all c.args.sender.now ends c.args.begun c.args.run.now rank run _
-    (ap (λ (k : ℕ). behind_end (base_of (segment_of rank)) k (end_listed ends (segment_of rank))) (sym c.reached.ensures) ∙ sym c.behind.ensures.value ∙ c.in_default.is))
+    (ap (λ (k : ℕ). behind_end (base_of (segment_of rank)) k (end_listed ends (segment_of rank))) (sym c.front.ensures) ∙ sym c.behind.ensures.value ∙ c.in_default.is))
 
 pub returns-in_err-go_on-clause-err : goal.returns-in_err-go_on-clause-err
 returns-in_err-go_on-clause-err g c =

@@ -1,6 +1,6 @@
 use Rattle.std.proofs.Common.{◌≡◌, ◌≤◌, ◌-◌, Ok}
 use Rattle.sqlite.specs.Held.{state}
-use Rattle.society_book.specs.Going.{RunsPast}
+use Rattle.society_arrivals.specs.Going.{RunsPast}
 use Rattle.society_book.specs.Steps.{Looks}
 use Rattle.society_arrivals.proofs.going.go_over.Given as goal
 use Rattle.work_ids.specs.Segments.{greatest_rank}

@@ -1,11 +1,12 @@
 use Rattle.std.proofs.Common.{Err, Ok, ◌≡◌, ◌∙◌, subst}
 use Rattle.sqlite.specs.Effect.{Database}
 use Rattle.sqlite.specs.Held.{state}
-use Rattle.society_book.specs.Going.{ReadsEnds, RunsOn, RunsOver}
+use Rattle.society_book.specs.EndLists.{ReadsEnds}
+use Rattle.society_arrivals.specs.Going.{RunsOn, RunsOver}
 use Rattle.society_book.specs.RightRows.{KeepsUnsound}
 use Rattle.society_book.specs.declared.sender_ends.SenderEnds.{SenderEnds}
 use Rattle.society_book.proofs.lemmas.together.ErrLemmas.{errs_on, errs_then}
-use Rattle.society_book.proofs.lemmas.lines.ArrivedRuns.{whole_by}
+use Rattle.society_arrivals.proofs.lemmas.ArrivedRuns.{whole_by}
 use Rattle.society_book.proofs.lemmas.together.StepLemmas.{does_open_then, looks_as, looks_then, survives_on}
 use Rattle.society_arrivals.proofs.going.whole_run.Goals as goal
 

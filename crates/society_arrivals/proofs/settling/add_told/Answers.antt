@@ -1,13 +1,21 @@
-use Rattle.std.proofs.Common.{Ok}
+use Rattle.std.proofs.Common.{[], List, Ok, map}
 use Rattle.sqlite.specs.Held.{state}
-use Rattle.society_book.proofs.lemmas.lines.RunWrites.{tells_all}
+use Rattle.sqlite_value.specs.Order.{Row}
+use Rattle.society_rows.specs.Rows.{recording_values, version_values}
+use Rattle.society_arrivals.specs.LineTables.{AddsTold}
+use Rattle.society_arrivals.proofs.lemmas.RunWrites.{tells_all, tells_works}
 use Rattle.society_book.proofs.lemmas.together.StepLemmas.{does_of, does_then}
 use Rattle.society_arrivals.proofs.settling.add_told.Goals as goal
 
 pub returns-clause-does : goal.returns-clause-does
 returns-clause-does g c =
+    let told : List Row = map version_values c.args.versions.now in
+    let named : List Row = map recording_values c.args.recordings.now in
     let old = state g.S.Store c.args.tx.now.conn.now in
-    let mid = state g.S.Store c.add_verdicts.new.tx.conn.now in
-    let new = state g.S.Store c.add_works.new.tx.conn.now in
-    does_then old mid new _ c.add_works.result _ _ _ (does_of old mid (Ok _) _ c.in_ok-add_verdicts.ensures.written (λ before after adds. adds.layout)) c.add_works.ensures.does
-    (λ y first second. tells_all _ _ _ old.now mid.now new.now first second)
+    let one = state g.S.Store c.add_verdicts.new.tx.conn.now in
+    let two = state g.S.Store c.add_versions.new.tx.conn.now in
+    let new = state g.S.Store c.add_recordings.new.tx.conn.now in
+    does_then old one new _ c.add_recordings.result _ (λ before after _. AddsTold [] told named before.trees after.trees) _ (does_of old one (Ok _) _ c.in_ok-add_verdicts.ensures.written (λ before after adds. adds.layout))
+    (does_then one two new _ c.add_recordings.result _ _ (λ before after _. AddsTold [] told named before.trees after.trees) (does_of one two (Ok _) _ c.in_ok-add_versions.ensures.written (λ before after adds. adds.layout)) (does_of two new c.add_recordings.result _ c.add_recordings.ensures.written (λ before after adds. adds.layout))
+    (λ y first second. tells_works told named one.now two.now new.now first second))
+    (λ y first second. tells_all _ told named old.now one.now new.now first second)

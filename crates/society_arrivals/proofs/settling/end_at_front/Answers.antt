@@ -1,7 +1,8 @@
 use Rattle.std.proofs.Common.{◌∙◌, List, ℕ, Ok, subst, sym}
 use Rattle.sqlite.specs.Held.{state}
-use Rattle.society_book.specs.Runs.{KnowsRun, is_key_among, line_at_front}
-use Rattle.society_book.proofs.lemmas.lines.RunLines.{knows_each}
+use Rattle.society_arrivals.specs.Runs.{KnowsRun, is_key_among}
+use Rattle.society_book.specs.DerivedRows.{line_at_front}
+use Rattle.society_arrivals.proofs.lemmas.RunLines.{knows_each}
 use Rattle.society_book.proofs.lemmas.together.StepLemmas.{looks_as}
 use Rattle.society_arrivals.proofs.settling.end_at_front.Goals as goal
 

@@ -1,8 +1,8 @@
 use Rattle.std.proofs.Common.{◌∙◌, ◌||◌, ◌+◌, IsTrue, List, ℕ, Ok, ap, bytes_eq, subst, sym, take, arith}
 use Rattle.std.proofs.lemmas.List.Folds.{list_any_more}
 use Rattle.sqlite.specs.Held.{state}
-use Rattle.society_book.specs.Runs.{is_key_among}
-use Rattle.society_book.proofs.lemmas.lines.RunLines.{ends_less}
+use Rattle.society_arrivals.specs.Runs.{is_key_among}
+use Rattle.society_arrivals.proofs.lemmas.RunLines.{ends_less}
 use Rattle.society_book.proofs.lemmas.together.StepLemmas.{looks_then}
 use Rattle.society_arrivals.proofs.settling.learn_all.Goals as goal
 

@@ -3,7 +3,8 @@ use Rattle.share_rules.specs.declared.office.Office.{Office}
 use Rattle.sqlite.specs.Held.{state}
 use Rattle.society_core.specs.Book.{Book}
 use Rattle.society_book.specs.Kept.{HoldsBook}
-use Rattle.society_book.specs.Runs.{is_key_among, line_at_front}
+use Rattle.society_arrivals.specs.Runs.{is_key_among}
+use Rattle.society_book.specs.DerivedRows.{line_at_front}
 use Rattle.society_book.specs.Steps.{Looks}
 use Rattle.society_arrivals.proofs.settling.learn_all.Given as goal
 use Rattle.works_core.specs.Ends.{EndsAt}

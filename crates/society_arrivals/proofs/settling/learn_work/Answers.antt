@@ -1,7 +1,7 @@
 use Rattle.std.proofs.Common.{◌∙◌, Ok, subst, sym}
 use Rattle.sqlite.specs.Held.{state}
 use Rattle.society_core.specs.Book.{front, version_in}
-use Rattle.society_book.specs.Runs.{line_at_front}
+use Rattle.society_book.specs.DerivedRows.{line_at_front}
 use Rattle.society_book.specs.Shown.{ShowVersion}
 use Rattle.society_book.proofs.lemmas.lines.LineRows.{back_by, front_version, version_shows}
 use Rattle.society_book.proofs.lemmas.together.StepLemmas.{looks_as, looks_of}

@@ -5,10 +5,11 @@ use Rattle.sqlite.specs.Held.{state}
 use Rattle.sqlite_trees.specs.Tree.{Trees}
 use Rattle.sqlite_value.specs.Order.{Row}
 use Rattle.sqlite_value.specs.declared.value.Value.TheVariants.{Int, Text}
-use Rattle.society_book.specs.Arriving.{PutsOutcomes}
-use Rattle.society_book.specs.Outcomes.{settled}
-use Rattle.society_book.specs.Runs.{behind_run, line_at_front}
-use Rattle.society_book.proofs.lemmas.lines.RunWrites.{settles_by}
+use Rattle.society_arrivals.specs.Arriving.{PutsOutcomes}
+use Rattle.society_arrivals.specs.Outcomes.{settled}
+use Rattle.society_arrivals.specs.Runs.{behind_run}
+use Rattle.society_book.specs.DerivedRows.{line_at_front}
+use Rattle.society_arrivals.proofs.lemmas.RunWrites.{settles_by}
 use Rattle.society_book.proofs.lemmas.together.StepLemmas.{does_then}
 use Rattle.society_arrivals.proofs.settling.put_run.Goals as goal
 
@@ -21,15 +22,15 @@ returns-clause-does g c =
     let old = state g.S.Store c.args.tx.now.conn.now in
     let mid = state g.S.Store c.end_at_front.new.tx.conn.now in
     let new = state g.S.Store c.put_told.new.tx.conn.now in
-    let row : Row = Text q ∷ Int (pos c.reached.result) ∷ Int c.in_ok-column_of.field-0 ∷ [] in
+    let row : Row = Text q ∷ Int (pos c.front.result) ∷ Int c.in_ok-column_of.field-0 ∷ [] in
     let Put : Trees → Trees → Type 0 = PutsOutcomes row q outcomes in
     does_then old mid new c.in_ok-end.end c.put_told.result _ (λ before after _. Put before.trees after.trees) _
-    (rw c.noted.ensures at c.in_ok-end.ensures.looks)
+    (rw c.notes.ensures at c.in_ok-end.ensures.looks)
     (rw (to_z-of_z w64 c.in_ok-column_of.field-0 c.in_ok-column_of.ensures.range) at c.put_told.ensures.does)
     (λ y one two o b holds at.
     let ready = one.1 o b holds at in
     let line = line_at_front o b s in
-    settles_by s q line run outcomes c.reached.result c.works.result c.in_ok-column_of.field-0 c.as_bytes.ensures.bytes c.reached.ensures c.in_ok-column_of.ensures.value
-    (c.works.ensures ready.0 (behind_run line run.notes) (rw c.noted-2.ensures at (c.in_ok-outcomes.ensures.ends ready.0 line ready.1 (rw c.noted-2.ensures ready.2))))
-    (ap (map settled) c.as_slice.ensures.value ∙ (rw c.noted-2.ensures at (c.in_ok-outcomes.ensures.settled ready.0 line ready.1 (rw c.noted-2.ensures ready.2))))
+    settles_by s q line run outcomes c.front.result c.works.result c.in_ok-column_of.field-0 c.as_bytes.ensures.bytes c.front.ensures c.in_ok-column_of.ensures.value
+    (c.works.ensures ready.0 (behind_run line run.notes) (rw c.notes-2.ensures at (c.in_ok-outcomes.ensures.ends ready.0 line ready.1 (rw c.notes-2.ensures ready.2))))
+    (ap (map settled) c.as_slice.ensures.value ∙ (rw c.notes-2.ensures at (c.in_ok-outcomes.ensures.settled ready.0 line ready.1 (rw c.notes-2.ensures ready.2))))
     old.now.trees new.now.trees (subst (λ (db : Database). Put db.trees new.now.trees) one.0 two))

@@ -1,6 +1,6 @@
 use Rattle.std.proofs.Common.{Ok}
 use Rattle.sqlite.specs.Held.{state}
-use Rattle.society_book.proofs.lemmas.lines.RunWrites.{adds_ordered, puts_line_by}
+use Rattle.society_arrivals.proofs.lemmas.RunWrites.{adds_ordered, puts_line_by}
 use Rattle.society_book.proofs.lemmas.together.StepLemmas.{does_of, does_then}
 use Rattle.society_arrivals.proofs.settling.put_told.Goals as goal
 

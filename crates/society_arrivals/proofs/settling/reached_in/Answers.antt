@@ -2,8 +2,8 @@ use Rattle.std.proofs.Common.{Ok, subst, sym}
 use Rattle.sqlite.specs.Held.{state}
 use Rattle.society_core.specs.Book.{front}
 use Rattle.society_book.specs.DerivedRows.{works_to}
-use Rattle.society_book.specs.Steps.{HasReached, ShowReached}
-use Rattle.society_book.proofs.lemmas.shown.FrontRows.{reached_found}
+use Rattle.society_arrivals.specs.Arrivals.{HasReached, ShowReached}
+use Rattle.society_arrivals.proofs.lemmas.ReachedRows.{reached_found}
 use Rattle.society_book.proofs.lemmas.shown.QuestionLemmas.{by_book}
 use Rattle.society_book.proofs.lemmas.together.StepLemmas.{looks_as, looks_of, on_ok}
 use Rattle.society_arrivals.proofs.settling.reached_in.Goals as goal

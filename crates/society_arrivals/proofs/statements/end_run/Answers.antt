@@ -10,10 +10,10 @@ use Rattle.society_rows.specs.Stored.{rows_in}
 use Rattle.sqlite_value.specs.Order.{Row}
 use Rattle.sqlite_value.specs.declared.value.Value.TheVariants.{Int, Text}
 use Rattle.society_book.specs.BookRows.{end_row}
-use Rattle.society_book.proofs.lemmas.lines.ArrivedRuns.{ended_order}
+use Rattle.society_arrivals.proofs.lemmas.ArrivedRuns.{ended_order}
 use Rattle.society_book.proofs.lemmas.lines.KnownSenders.{knows_stated}
-use Rattle.society_book.proofs.lemmas.lines.RunBooks.{lined_by}
-use Rattle.society_book.proofs.lemmas.lines.RunTables.{end_added}
+use Rattle.society_arrivals.proofs.lemmas.RunBooks.{lined_by}
+use Rattle.society_arrivals.proofs.lemmas.RunTables.{end_added}
 use Rattle.society_book.proofs.lemmas.together.StepLemmas.{does_of, does_then}
 use Rattle.society_arrivals.proofs.statements.end_run.Goals as goal
 

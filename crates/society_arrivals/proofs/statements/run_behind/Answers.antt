@@ -1,7 +1,8 @@
 use Rattle.std.proofs.Common.{Ok}
 use Rattle.sqlite.specs.Held.{state}
-use Rattle.society_book.specs.Going.{ReadsEnds, RunsOver}
-use Rattle.society_book.proofs.lemmas.lines.ArrivedRuns.{states_run}
+use Rattle.society_book.specs.EndLists.{ReadsEnds}
+use Rattle.society_arrivals.specs.Going.{RunsOver}
+use Rattle.society_arrivals.proofs.lemmas.ArrivedRuns.{states_run}
 use Rattle.society_book.proofs.lemmas.together.StepLemmas.{looks_as, looks_then}
 use Rattle.society_arrivals.proofs.statements.run_behind.Goals as goal
 

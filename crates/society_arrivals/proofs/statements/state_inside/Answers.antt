@@ -1,8 +1,8 @@
 use Rattle.std.proofs.Common.{◌≡◌, Ok, subst, sym}
 use Rattle.sqlite.specs.Effect.{Database}
 use Rattle.sqlite.specs.Held.{state}
-use Rattle.society_book.specs.Arriving.{EndsRun, StatesBy, StatesWith}
-use Rattle.society_book.proofs.lemmas.lines.ArrivedRuns.{states_with}
+use Rattle.society_arrivals.specs.Arriving.{EndsRun, StatesBy, StatesWith}
+use Rattle.society_arrivals.proofs.lemmas.ArrivedRuns.{states_with}
 use Rattle.society_book.proofs.lemmas.together.StepLemmas.{does_as, does_open_then, does_then}
 use Rattle.society_arrivals.proofs.statements.state_inside.Goals as goal
 
@@ -21,7 +21,7 @@ returns-clause-does g c =
     (does_as mid new tt (Ok _) (λ before after _. StatesBy o s stated reached.front before.trees run × EndsRun s stated reached.works run before.trees after.trees) (λ before after y. StatesBy o s stated reached.front before.trees run × EndsRun s stated reached.works run before.trees after.trees × (y ≡ run.reached))
     (does_then mid later new run (Ok tt) _ (λ before after _. EndsRun s stated reached.works run before.trees after.trees) _ c.in_ok-run.ensures.looks c.in_ok-end_run.ensures.does
     (λ y two three. (two.1, subst (λ (db : Database). EndsRun s stated reached.works run db.trees new.now.trees) two.0 three)))
-    (λ both. (both.0, both.1, c.reached.ensures)))
+    (λ both. (both.0, both.1, c.front.ensures)))
     (λ y one both.
     subst (StatesWith o s stated old.now.trees new.now.trees) (sym both.2)
     (states_with o s stated reached.front reached.works run old.now.trees new.now.trees c.as_bytes.ensures.key c.last-last.ensures.right one.1

@@ -18,8 +18,8 @@ returns g c =
           let o = c.args.office.now in
           let s = c.args.sender.now in
           let n = c.args.number in
-          asked_then _ _ _ _ c.written_of.result _ _ _
-          (rw c.as_bytes.ensures.bytes at c.in_ok-verdicts.ensures.asked) (rw c.value.ensures.value at c.written_of.ensures.asked)
+          asked_then _ _ _ _ c.acknowledgement_of.result _ _ _
+          (rw c.as_bytes.ensures.bytes at c.in_ok-verdicts.ensures.asked) (rw c.value.ensures.value at c.acknowledgement_of.ensures.asked)
           (λ y judged text b holds.
           acknowledged o b s n c.in-Some.verdicts.items _ (sym (ap items_of c.in-Some.is) ∙ judged o b holds)
           (text o b holds ∙ ap (λ (vs : List Verdict). Some (acknowledgement o s (transmission_in (unwrap_or (body_at b s n) [])) vs)) c.as_slice.ensures.value));

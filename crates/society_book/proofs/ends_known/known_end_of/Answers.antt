@@ -16,7 +16,7 @@ returns-in-Absent g c =
           asked_then _ _ _ c.in_ok-stated.stated c.free_segment.result _ _ _ c.in_ok-stated.ensures.asked c.free_segment.ensures.asked
           (λ y reads found o book holds.
           found o book holds
-          ∙ ap (end_known_with (front book s) (number_past book s place stated.last)) (sym c.in-Absent.is ∙ c.compared.ensures ∙ ap (λ (ends : StatedEnds). end_known_by (end_stated stated) (ends place)) (reads book holds.kept.ends)));
+          ∙ ap (end_known_with (front book s) (number_past book s place stated.last)) (sym c.in-Absent.is ∙ c.known_end.ensures ∙ ap (λ (ends : StatedEnds). end_known_by (end_stated stated) (ends place)) (reads book holds.kept.ends)));
     }
 
 pub returns-in-Same : goal.returns-in-Same
@@ -29,7 +29,7 @@ returns-in-Same g c =
           asked_then _ _ _ c.in_ok-stated.stated c.same_with_front.result _ _ _ c.in_ok-stated.ensures.asked c.same_with_front.ensures.asked
           (λ y reads found o book holds.
           found o book holds
-          ∙ ap (end_known_with (front book s) (number_past book s place stated.last)) (sym c.in-Same.is ∙ c.compared.ensures ∙ ap (λ (ends : StatedEnds). end_known_by (end_stated stated) (ends place)) (reads book holds.kept.ends)));
+          ∙ ap (end_known_with (front book s) (number_past book s place stated.last)) (sym c.in-Same.is ∙ c.known_end.ensures ∙ ap (λ (ends : StatedEnds). end_known_by (end_stated stated) (ends place)) (reads book holds.kept.ends)));
     }
 
 pub returns : goal.returns
@@ -41,5 +41,5 @@ returns g c =
       asked =
           then_asked _ _ c.in_ok-stated.stated (Ok _) _ _ c.in_ok-stated.ensures.asked
           (λ reads o book holds.
-          ap (end_known_with (front book s) (number_past book s place stated.last)) (sym c.in-Other.is ∙ c.compared.ensures ∙ ap (λ (ends : StatedEnds). end_known_by (end_stated stated) (ends place)) (reads book holds.kept.ends)));
+          ap (end_known_with (front book s) (number_past book s place stated.last)) (sym c.in-Other.is ∙ c.known_end.ensures ∙ ap (λ (ends : StatedEnds). end_known_by (end_stated stated) (ends place)) (reads book holds.kept.ends)));
     }

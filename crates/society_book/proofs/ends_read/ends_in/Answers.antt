@@ -8,8 +8,8 @@ use Rattle.society_rows.specs.Layout as layout
 use Rattle.society_rows.specs.Reads.{Lists, has_key}
 use Rattle.society_rows.specs.Stored.{rows_in}
 use Rattle.society_book.specs.RightRows.{IsRightStated, KeepsUnsound}
-use Rattle.society_book.proofs.lemmas.lines.RightRows.{all_listed, all_right_stated, blames_of}
-use Rattle.society_book.proofs.lemmas.together.ErrLemmas.{errs_as}
+use Rattle.society_book.proofs.lemmas.lines.RightRows.{all_listed, all_right_stated}
+use Rattle.society_book.proofs.lemmas.together.ErrLemmas.{errs_as, blames_where}
 use Rattle.sqlite.specs.Held.{state}
 use Rattle.society_book.specs.EndLists.{end_shown}
 use Rattle.society_book.proofs.lemmas.rows_alike.EndRows.{ends_found}
@@ -34,7 +34,6 @@ returns-clause-err g c =
     let rows = c.in_ok-rows.rows.items in
     let ListsEnds : Trees → Vec Row Global → Type 0 = λ db found. Lists layout.segment_ends (has_key (Text s ∷ [])) 2 db found.items in
     errs_as {X = Vec Row Global} KeepsUnsound old new c.in_ok-rows.rows c.ends_shown.result ListsEnds (looks_of old new (Ok c.in_ok-rows.rows) ListsEnds c.in_ok-rows.ensures.read)
-    (λ lists. blames_of (AllByRecursion IsRightStated c.as_slice.result.now → ⊥) (KeepsUnsound old.now.trees) c.ends_shown.result
+    (λ lists. blames_where (AllByRecursion IsRightStated c.as_slice.result.now → ⊥) (KeepsUnsound old.now.trees) c.ends_shown.result c.ends_shown.ensures.blames
     (λ wrong b sound keeps. wrong (subst (AllByRecursion IsRightStated) (sym c.as_slice.ensures.value)
-    (all_listed IsRightStated layout.segment_ends (has_key (Text s ∷ [])) 2 old.now.trees rows (all_right_stated b (rows_in layout.segment_ends old.now.trees) sound keeps.ends) lists)))
-    c.ends_shown.ensures.blames)
+    (all_listed IsRightStated layout.segment_ends (has_key (Text s ∷ [])) 2 old.now.trees rows (all_right_stated b (rows_in layout.segment_ends old.now.trees) sound keeps.ends) lists))))

@@ -1,12 +1,12 @@
 -- Of which senders a book has anything.
-use Rattle.std.proofs.Common.{◌≡◌, ◌∙◌, ◌||◌, ℕ, Bool, true, false, cond, List, [], ◌∷◌, Option, Some, None, is_some, refl, ap, sym, subst, bytes_eq}
+use Rattle.std.proofs.Common.{◌≡◌, ◌∙◌, ◌||◌, ℕ, Bool, true, false, cond, List, Option, Some, None, is_some, refl, ap, sym, subst, bytes_eq}
 use Rattle.std.specs.FinMap as finite
 use Rattle.std.specs.FinMap.{FinMap, IsAntisymmetric}
 use Rattle.std.specs.Cmp.{IsTotalOrder}
 use Rattle.std.specs.List.{list_any}
 use Rattle.std.specs.Ordering.{eq_by_cmp, is_eq}
 use Rattle.std.specs.declared.cmp.Ordering.{Ordering}
-use Rattle.std.proofs.lemmas.Bool.{false≢true}
+use Rattle.std.proofs.lemmas.Bool.{false_from_ne_true, false≢true, or_left, or_parts, or_right}
 use Rattle.std.proofs.lemmas.Cmp.{tied_itself}
 use Rattle.std.proofs.lemmas.Slice.Eq.{bytes_eq-Decides}
 use Rattle.sender_segments.specs.Ways.{End}
@@ -18,22 +18,7 @@ use Rattle.society_core.proofs.lemmas.Inserts.{tied}
 use Rattle.society_core.proofs.lemmas.KeyOrders.{exact_segments, exact_transmissions, segments_total, transmissions_total}
 use Rattle.society_book.specs.DerivedRows.{has_sent, has_stated, knows_sender}
 use Rattle.society_book.proofs.lemmas.rows_alike.KeyRows.{same_truth}
-
-pub is_or : (a b : Bool) → a ≡ true → (a || b) ≡ true
-is_or true b h = refl
-is_or false b h = absurd (false≢true h)
-
-pub or_is : (a b : Bool) → b ≡ true → (a || b) ≡ true
-or_is true b h = refl
-or_is false b h = h
-
-neither_first : (a b : Bool) → (a || b) ≡ false → a ≡ false
-neither_first false b h = refl
-neither_first true b h = absurd (false≢true (sym h))
-
-neither_second : (a b : Bool) → (a || b) ≡ false → b ≡ false
-neither_second false b h = h
-neither_second true b h = absurd (false≢true (sym h))
+use Rattle.sqlite_rules.proofs.ListLemmas.{some_from, some_has}
 
 module _ {K : Type 0} {R : K → K → Ordering} (total : IsTotalOrder R) (exact : IsAntisymmetric R) (sender_of : K → List ℕ) where
   -- whether some keys have one of a sender
@@ -50,23 +35,14 @@ module _ {K : Type 0} {R : K → K → Ordering} (total : IsTotalOrder R) (exact
   itself key = ap is_eq (tied_itself total key)
 
   one_of_them : (t : List ℕ) (keys : List K) → has_of keys t ≡ true → IsOf keys t
-  one_of_them t [] h = absurd (false≢true h)
-  one_of_them t (key ∷ keys) h = by_case (bytes_eq (sender_of key) t) refl h (one_of_them t keys)
-    where
-      by_case : (x : Bool) → bytes_eq (sender_of key) t ≡ x → (x || has_of keys t) ≡ true → (has_of keys t ≡ true → IsOf keys t) → IsOf (key ∷ keys) t
-      by_case true is some later = record { key = key; its = (bytes_eq-Decides (sender_of key) t).0 is; there = is_or (eq_by_cmp R key key) (list_any (eq_by_cmp R key) keys) (itself key) }
-      by_case false is some later =
-          let found = later some in
-          record { key = found.key; its = found.its; there = or_is (eq_by_cmp R found.key key) (list_any (eq_by_cmp R found.key) keys) found.there }
+  one_of_them t keys h =
+      let found = some_has (λ key. bytes_eq (sender_of key) t) keys h in
+      record { key = found.0; its = (bytes_eq-Decides (sender_of found.0) t).0 found.2; there = some_from (eq_by_cmp R found.0) keys found.0 found.1 (itself found.0) }
 
   of_them : (key : K) (keys : List K) → list_any (eq_by_cmp R key) keys ≡ true → has_of keys (sender_of key) ≡ true
-  of_them key [] h = absurd (false≢true h)
-  of_them key (other ∷ keys) h = by_case (eq_by_cmp R key other) refl h (of_them key keys)
-    where
-      by_case : (x : Bool) → eq_by_cmp R key other ≡ x → (x || list_any (eq_by_cmp R key) keys) ≡ true → (list_any (eq_by_cmp R key) keys ≡ true → has_of keys (sender_of key) ≡ true) → has_of (other ∷ keys) (sender_of key) ≡ true
-      by_case true is some later =
-          is_or (bytes_eq (sender_of other) (sender_of key)) (has_of keys (sender_of key)) ((bytes_eq-Decides (sender_of other) (sender_of key)).1 (sym (ap sender_of (exact key other (tied (R key other) is)))))
-      by_case false is some later = or_is (bytes_eq (sender_of other) (sender_of key)) (has_of keys (sender_of key)) (later some)
+  of_them key keys h =
+      let found = some_has (eq_by_cmp R key) keys h in
+      some_from (λ other. bytes_eq (sender_of other) (sender_of key)) keys found.0 found.1 ((bytes_eq-Decides (sender_of found.0) (sender_of key)).1 (sym (ap sender_of (exact key found.0 (tied (R key found.0) found.2)))))
 
   module _ {V : Type 0} (m : FinMap R V) where
     -- a sender that has something in a map has it under a key
@@ -97,10 +73,10 @@ module _ {K : Type 0} {R : K → K → Ordering} (total : IsTotalOrder R) (exact
             where
               by_case : (found : IsOf (finite.keys after) t) (x : Bool) → eq_by_cmp R found.key key ≡ x → (bytes_eq (sender_of key) t || has_of (finite.keys m) t) ≡ true
               by_case found true is =
-                  is_or (bytes_eq (sender_of key) t) (has_of (finite.keys m) t) ((bytes_eq-Decides (sender_of key) t).1 (sym (ap sender_of (exact found.key key (tied (R found.key key) is))) ∙ found.its))
+                  or_left (bytes_eq (sender_of key) t) (has_of (finite.keys m) t) ((bytes_eq-Decides (sender_of key) t).1 (sym (ap sender_of (exact found.key key (tied (R found.key key) is))) ∙ found.its))
               by_case found false is =
                   let some : is_some (finite.get m found.key) ≡ true = ap is_some (sym (got found.key ∙ ap (λ (x : Bool). cond x (Some v) (finite.get m found.key)) is)) ∙ finite.contains_key-keys after found.key ∙ found.there in
-                  or_is (bytes_eq (sender_of key) t) (has_of (finite.keys m) t) (subst (λ (q : List ℕ). has_of (finite.keys m) q ≡ true) found.its (has_there found.key some))
+                  or_right (bytes_eq (sender_of key) t) (has_of (finite.keys m) t) (subst (λ (q : List ℕ). has_of (finite.keys m) q ≡ true) found.its (has_there found.key some))
 
           still : (q : K) → is_some (finite.get after q) ≡ true → sender_of q ≡ t → has_of (finite.keys after) t ≡ true
           still q some its = subst (λ (x : List ℕ). has_of (finite.keys after) x ≡ true) its (of_them q (finite.keys after) (sym (finite.contains_key-keys after q) ∙ some))
@@ -127,11 +103,7 @@ end_stated_there b s g h = has_there segments_total exact_segments (λ (key : Se
 
 -- of a sender of whom a book has nothing no number is there
 pub nothing_sent : (b : Book) (s : List ℕ) → knows_sender b s ≡ false → (n : ℕ) → is_there b s n ≡ false
-nothing_sent b s h n = by_case (is_there b s n) refl
-  where
-    by_case : (x : Bool) → is_there b s n ≡ x → x ≡ false
-    by_case false is = refl
-    by_case true is = absurd (false≢true (sym (neither_first (has_sent b s) (has_stated b s) h) ∙ there_sent b s n is))
+nothing_sent b s h n = false_from_ne_true (is_there b s n) (λ is. false≢true (sym (or_parts (has_sent b s) (has_stated b s) h).0 ∙ there_sent b s n is))
 
 -- nor has a segment of it an end
 pub nothing_stated : (b : Book) (s : List ℕ) → knows_sender b s ≡ false → (g : ℕ) → end_at b s g ≡ None
@@ -139,7 +111,7 @@ nothing_stated b s h g = by_case (end_at b s g) refl
   where
     by_case : (o : Option End) → end_at b s g ≡ o → o ≡ None
     by_case None is = refl
-    by_case (Some end) is = absurd (false≢true (sym (neither_second (has_sent b s) (has_stated b s) h) ∙ end_stated_there b s g (ap is_some is)))
+    by_case (Some end) is = absurd (false≢true (sym ((or_parts (has_sent b s) (has_stated b s) h).1) ∙ end_stated_there b s g (ap is_some is)))
 
 -- with one transmission more a book has something of its sender
 pub knows_sent : (b : Book) (s : List ℕ) (n : ℕ) (body : List ℕ) (t : List ℕ) → knows_sender (with_transmission b s n body) t ≡ (bytes_eq s t || knows_sender b t)

@@ -1,10 +1,10 @@
 -- A sender's line, one transmission after another, and the rows of its versions.
-use Rattle.std.proofs.Common.{◌≡◌, ◌∙◌, ◌<◌, ◌≤◌, ◌+◌, ◌-◌, ◌&&◌, ◌++◌, ℕ, pos, Bool, true, false, cond, List, [], ◌∷◌, Option, Some, None, length, refl, ap, ap₂, sym, subst, arith, map, filter, take, get_or, IsPermutation, unwrap_or, Less, Equal, bytes_eq, replicate}
-use Rattle.std.specs.List.{AllByRecursion, flat_map}
+use Rattle.std.proofs.Common.{◌≡◌, ◌∙◌, ◌<◌, ◌≤◌, ◌+◌, ◌-◌, ◌&&◌, ◌++◌, ℕ, pos, Bool, true, false, cond, List, [], ◌∷◌, Option, Some, None, length, refl, ap, ap₂, sym, subst, arith, map, filter, take, get_or, IsPermutation, unwrap_or, Less, Equal, bytes_eq, replicate, Ok, nat_le, append_assoc}
+use Rattle.std.specs.List.{AllByRecursion, flat_map, list_all, suffix_len}
 use Rattle.std.specs.Ordering.{ordering_then}
 use Rattle.std.proofs.lemmas.Cmp.{tied_itself}
 use Rattle.sqlite_sql.specs.Query.{key_cmp}
-use Rattle.sqlite_trees.specs.Tree.{IsAscending}
+use Rattle.sqlite_trees.specs.Tree.{IsAscending, Trees}
 use Rattle.sqlite_value.proofs.KeyLemmas.{by_key_total}
 use Rattle.sqlite_value.specs.Keys.{by_key}
 use Rattle.sqlite_value.specs.declared.keys.Collation.TheVariants.{Binary}
@@ -14,33 +14,24 @@ use Rattle.society_rows.specs.Reads.{IsFirstOf, falling, has_key}
 use Rattle.society_book.specs.Shown.{ShowVersion}
 use Rattle.work_ids.specs.Characters.{is_printable}
 use Rattle.work_ids.specs.WorkNumber.{work_number_of}
-use Rattle.work_ids.specs.declared.fault.IdFault.{IdFault}
 use Rattle.work_ids.specs.declared.fault.IdFault.TheVariants.{Length, Character}
-use Rattle.std.proofs.Common.{Result, Ok, Err, nat_le}
-use Rattle.std.specs.List.{list_all}
 use Rattle.society_book.specs.BookRows.{row_of_some}
 use Rattle.society_book.specs.Columns.{text_at}
-use Rattle.sqlite_keyed.proofs.ListLemmas.{IsPermutation-filter, filter-filter}
+use Rattle.sqlite_keyed.proofs.ListLemmas.{all-append, filter-filter}
 use Rattle.sqlite_keyed.proofs.SortLemmas.{sorted_unique}
 use Rattle.sqlite_schema.specs.Rules.{equal}
 use Rattle.sqlite_sql.proofs.QueryLemmas.{key_cmp_total}
-use Rattle.sqlite_trees.proofs.ListLemmas.{filter_same}
-use Rattle.sqlite_trees.specs.Tree.{Trees}
 use Rattle.society_rows.specs.Layout as layout
-use Rattle.society_rows.specs.Stored.{rows_in}
 use Rattle.society_book.specs.Kept.{HoldsBook}
-use Rattle.society_book.proofs.lemmas.rows_alike.Equals.{texts_equal}
-use Rattle.society_book.proofs.lemmas.rows_alike.KeyRows.{either_way, same_truth}
-use Rattle.society_book.proofs.lemmas.rows_alike.RowLemmas.{all_rows}
-use Rattle.society_book.proofs.lemmas.shown.VerdictRows.{filter_both}
+use Rattle.society_rows.proofs.lemmas.readings.KeyEquality.{text_equal}
+use Rattle.society_book.proofs.lemmas.rows_alike.KeyRows.{either_way, last_truth, let_through, same_truth}
+use Rattle.society_book.proofs.lemmas.rows_alike.RowLemmas.{found_among}
 use Rattle.society_book.proofs.lemmas.rows_alike.SortedRows.{numbers_rise}
 use Rattle.std.proofs.lemmas.List.{append-nil, get_or-append_right, get_or-replicate, get_or_append_left, length-append, length-replicate, take_at}
 use Rattle.std.proofs.lemmas.List.Sums.{suffix_len_is}
-use Rattle.std.specs.List.{suffix_len}
 use Rattle.cwr_files.specs.Transaction.{first_work, submitter_number}
 use Rattle.cwr_records.specs.declared.work.TransactionKind.{TransactionKind}
 use Rattle.work_ids.proofs.lemmas.Refilled.{left_last}
-use Rattle.std.proofs.Common.{append_assoc}
 use Rattle.std.proofs.lemmas.List.Elements.{filter-append}
 use Rattle.std.proofs.lemmas.List.Sorted.{IsPermutation-append_comm, IsPermutation-append_right, IsPermutation-refl, IsPermutation-trans}
 use Rattle.std.proofs.lemmas.Slice.Eq.{bytes_eq-Decides}
@@ -57,8 +48,7 @@ use Rattle.society_core.proofs.lemmas.LineNumbers.{all_up_to, line_rises_to, non
 use Rattle.society_core.proofs.lemmas.Lines.{judged_under, line_over, line_to, over_below, over_push, over_rises, over_up_to}
 use Rattle.sqlite_value.specs.declared.value.Value.TheVariants.{Int, Text}
 use Rattle.sqlite_value.specs.Order.{Row, column}
-use Rattle.society_book.specs.DerivedRows.{is_named, tells_version, told_by, told_from, told_to_front}
-use Rattle.society_book.specs.Runs.{line_at_front}
+use Rattle.society_book.specs.DerivedRows.{is_named, tells_version, told_by, told_from, told_to_front, line_at_front}
 use Rattle.work_ids.specs.Blanks.{fill, is_blank_byte, without_trailing_blanks}
 use Rattle.works_core.proofs.lemmas.EndLemmas.{IsTaken, refused, taken}
 use Rattle.works_core.proofs.lemmas.KeptLemmas.{placed_push}
@@ -351,28 +341,16 @@ told_texts : (s : List ℕ) (t : Placed) (v : Verdict) → AllByRecursion HasTex
 told_texts s t (Rejected f) = tt
 told_texts s t (Accepted k r) = ((refl, refl), tt)
 
-both_texts : (xs ys : List Row) → AllByRecursion HasTexts xs → AllByRecursion HasTexts ys → AllByRecursion HasTexts (xs ++ ys)
-both_texts [] ys x y = y
-both_texts (row ∷ xs) ys x y = (x.0, both_texts xs ys x.1 y)
-
 rows_texts : (s : List ℕ) (past : List Placed) → AllByRecursion HasTexts (version_rows s past)
 rows_texts s [] = tt
-rows_texts s (t ∷ past) = both_texts (version_rows s past) (version_told s t (verdict_of (judged_of past) t.judged)) (rows_texts s past) (told_texts s t (verdict_of (judged_of past) t.judged))
-
-last_truth : (b : Bool) → (b && true) ≡ b
-last_truth true = refl
-last_truth false = refl
+rows_texts s (t ∷ past) = all-append HasTexts (version_rows s past) (version_told s t (verdict_of (judged_of past) t.judged)) (rows_texts s past) (told_texts s t (verdict_of (judged_of past) t.judged))
 
 -- what SQL tests of a row with two texts in front
-tested : (s w : List ℕ) (row : Row) → HasTexts row → has_key (Text s ∷ Text (without_trailing_blanks w) ∷ []) row ≡ (is_named s row && is_of_work w row)
+pub tested : (s w : List ℕ) (row : Row) → HasTexts row → has_key (Text s ∷ Text (without_trailing_blanks w) ∷ []) row ≡ (is_named s row && is_of_work w row)
 tested s w row h =
     ap₂ (λ x y. x && y)
-    (ap (λ v. equal Binary v (Text s)) h.0 ∙ texts_equal (text_at 0 row) s)
-    (last_truth (equal Binary (column row 1) (Text (without_trailing_blanks w))) ∙ ap (λ v. equal Binary v (Text (without_trailing_blanks w))) h.1 ∙ texts_equal (text_at 1 row) (without_trailing_blanks w) ∙ either_way (text_at 1 row) (without_trailing_blanks w))
-
-pub all_tested : (s w : List ℕ) (rows : List Row) → AllByRecursion HasTexts rows → AllByRecursion (λ row. has_key (Text s ∷ Text (without_trailing_blanks w) ∷ []) row ≡ (is_named s row && is_of_work w row)) rows
-all_tested s w [] h = tt
-all_tested s w (row ∷ rows) h = (tested s w row h.0, all_tested s w rows h.1)
+    (ap (λ v. equal Binary v (Text s)) h.0 ∙ text_equal (text_at 0 row) s)
+    (last_truth (equal Binary (column row 1) (Text (without_trailing_blanks w))) ∙ ap (λ v. equal Binary v (Text (without_trailing_blanks w))) h.1 ∙ text_equal (text_at 1 row) (without_trailing_blanks w) ∙ either_way (text_at 1 row) (without_trailing_blanks w))
 
 -- what a sender's transmissions tell of versions begins with two texts
 pub texts_told : (o : Office) (b : Book) (q : List ℕ) → AreRight (ends_of b q) → AllByRecursion HasTexts (told_to_front tells_version o b q)
@@ -385,18 +363,13 @@ module _ (o : Office) (b : Book) (db : Trees) (holds : HoldsBook o b db) (s w : 
   last_found back found is =
       let right = (sound_order b holds.sound s).right in
       let whole = placed_over o b s (line b s) in
-      let rows = rows_in layout.versions db in
-      let texts = all_rows is_named (text_at 0) (λ r. (bytes_eq-Decides (text_at 0 r) (text_at 0 r)).1 refl) HasTexts (told_to_front tells_version o b) rows holds.derived.versions (λ q. texts_told o b q (sound_order b holds.sound q).right) in
-      let same : filter (has_key (Text s ∷ Text (without_trailing_blanks w) ∷ [])) rows ≡ filter (is_of_work w) (filter (is_named s) rows) =
-      filter_same (has_key (Text s ∷ Text (without_trailing_blanks w) ∷ [])) (λ row. is_named s row && is_of_work w row) rows (all_tested s w rows texts) ∙ filter_both (is_named s) (is_of_work w) rows in
       let told : told_to_front tells_version o b s ≡ version_rows s whole = told_line o b s right in
-      let there = IsPermutation-trans (work_rows s w whole) (filter (is_of_work w) (version_rows s whole)) (filter (is_of_work w) (filter (is_named s) rows))
-      (rows_of_work s w back whole (line_back o b s (line b s)))
-      (subst (λ l. IsPermutation (filter (is_of_work w) l) (filter (is_of_work w) (filter (is_named s) rows))) told
-      (IsPermutation-filter (is_of_work w) (told_to_front tells_version o b s) (filter (is_named s) rows) (holds.derived.versions s))) in
+      let among = found_among HasTexts is_named (text_at 0) (λ r. (bytes_eq-Decides (text_at 0 r) (text_at 0 r)).1 refl) s (has_key (Text s ∷ Text (without_trailing_blanks w) ∷ [])) (is_of_work w) (tested s w)
+      layout.versions (told_to_front tells_version o b) db is.all holds.derived.versions (λ q. texts_told o b q (sound_order b holds.sound q).right) is.rows in
       let ordered : is.all ≡ work_rows s w whole =
       sorted_unique (key_cmp 0 (falling 3)) (key_cmp_total (falling 3) 0) (work_rows s w whole) is.all (work_falls s w back whole)
-      (IsPermutation-trans (work_rows s w whole) (filter (is_of_work w) (filter (is_named s) rows)) is.all there (subst (λ l. IsPermutation l is.all) same is.rows))
+      (IsPermutation-trans (work_rows s w whole) (filter (is_of_work w) (version_rows s whole)) is.all (rows_of_work s w back whole (line_back o b s (line b s)))
+      (subst (λ (l : List Row). IsPermutation (filter (is_of_work w) l) is.all) told among))
       is.sorted in
       is.first ∙ ap (take 1) ordered ∙ first_row s w whole ∙ ap (λ (past : List Placed). row_of_some (version_row s w) (last_version w past)) (sym (at_front o b s right))
 
@@ -424,17 +397,11 @@ version_shows o b db holds s w back found is =
     subst (λ v. ShowVersion v found) (front_version o b s w)
     (subst (ShowVersion (last_version w line)) (sym (last_found o b db holds s w back found is)) (shows s w (last_version w line)))
 
-ok_same : (x y : List ℕ) → ◌≡◌ {A = Result (List ℕ) IdFault} (Ok x) (Ok y) → x ≡ y
-ok_same x y e = cc
-
 -- a work number that a text spells is the text, filled with blanks
 pub filled_of : (w text : List ℕ) → work_number_of text ≡ Ok w → fill 14 (without_trailing_blanks text) ≡ w
-filled_of w text spelt = by_length (nat_le 1 (length (without_trailing_blanks text)) && nat_le (length (without_trailing_blanks text)) 14) (list_all is_printable (without_trailing_blanks text)) spelt
-  where
-    by_length : (a c : Bool) → cond a (cond c (Ok (fill 14 (without_trailing_blanks text))) (Err Character)) (Err Length) ≡ Ok w → fill 14 (without_trailing_blanks text) ≡ w
-    by_length true true e = ok_same (fill 14 (without_trailing_blanks text)) w e
-    by_length true false e = absurd (let x = e in cc)
-    by_length false c e = absurd (let x = e in cc)
+filled_of w text spelt =
+    let short = without_trailing_blanks text in
+    (let_through (nat_le 1 (length short) && nat_le (length short) 14) (list_all is_printable short) (fill 14 short) w Character Length spelt).1
 
 -- blanks at the end are left once
 pub left_once : (y : List ℕ) → without_trailing_blanks (without_trailing_blanks y) ≡ without_trailing_blanks y

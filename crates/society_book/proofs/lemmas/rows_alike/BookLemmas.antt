@@ -5,7 +5,7 @@ use Rattle.std.specs.FinMap as finite
 use Rattle.std.specs.Cmp.{IsTotalOrder}
 use Rattle.std.specs.List.{AllByRecursion, list_all, list_any}
 use Rattle.std.proofs.lemmas.Bool.{false≢true}
-use Rattle.society_core.proofs.lemmas.Fronts.{first_holds, second_holds}
+use Rattle.society_core.proofs.lemmas.Fronts.{second_holds}
 use Rattle.society_core.proofs.lemmas.SameOrders.{same_return_is}
 use Rattle.work_ids.specs.Blanks.{fill, without_trailing_blanks}
 use Rattle.work_ids.specs.Numbers.{is_pool_number}
@@ -35,6 +35,7 @@ use Rattle.society_rows.specs.Stored.{rows_in}
 use Rattle.society_book.specs.BookRows.{AreOfBook, book_of, cut_key_of, cut_row, end_entry, end_of, end_row, is_end_row, is_of_pool, is_return_row, is_transmission_row, kind_marked, marks_by, marks_of, mechanical_row, order_in, paid_row, pool_entry, pool_row, return_entry, return_key_of, return_row, return_rows, row_of_some, rows_of_order, same_segment_key, segment_key_of, transmission_entry, transmission_key_of, transmission_row}
 use Rattle.society_book.specs.Columns.{HasRows, segment_of_value, whole_number_at}
 use Rattle.society_book.proofs.lemmas.rows_alike.RowLemmas.{map_of_rows, none_else, one_else, only}
+use Rattle.sqlite_keyed.proofs.ListLemmas.{all_from_test, all_weaker, map_back}
 
 -- two orders in turn tie where both do
 both_tie : (a b : Ordering) → is_eq (ordering_then a b) ≡ (is_eq a && is_eq b)
@@ -86,8 +87,7 @@ one_ascent {R = R} total exact xs ys p =
     ∙ sym (marked R q xs) ∙ sym (get-from_entries total (map (λ key. (key, true)) xs) q)))
 
 pub cuts_back : (pool : ℕ) (keys : List TransmissionKey) → map cut_key_of (map (cut_row pool) keys) ≡ keys
-cuts_back pool [] = refl
-cuts_back pool (key ∷ keys) = ap (λ l. key ∷ l) (cuts_back pool keys)
+cuts_back pool keys = map_back (cut_row pool) cut_key_of (λ key. refl) keys
 
 -- the reporter is read back from its text
 abbrev pub IsRefilled : ReturnKey → Type 0
@@ -116,11 +116,8 @@ refilled book rows has key there = kept (return_at book key) there (only (return
         ap (λ (k : ReturnKey). k.reporter) (sym (same_return_is key (return_key_of (return_row key body)) passes))
 
 pub all_refilled : (book : Book) (rows : List Row) → HasRows is_return_row (return_rows book) rows → (keys : List ReturnKey) → list_all (λ key. is_some (return_at book key)) keys ≡ true → AllByRecursion IsRefilled keys
-all_refilled book rows has [] h = tt
-all_refilled book rows has (key ∷ keys) h = (
-  refilled book rows has key (first_holds (is_some (return_at book key)) (list_all (λ k. is_some (return_at book k)) keys) h),
-  all_refilled book rows has keys (second_holds (is_some (return_at book key)) (list_all (λ k. is_some (return_at book k)) keys) h),
-)
+all_refilled book rows has keys h =
+    all_weaker (λ key. is_some (return_at book key) ≡ true) IsRefilled (refilled book rows has) keys (all_from_test (λ key. is_some (return_at book key)) keys h)
 
 pub third_holds : (a b c : Bool) → (a && b && c) ≡ true → c ≡ true
 third_holds a b c h = second_holds (a && b) c h
@@ -156,9 +153,6 @@ the_book book db sound rows =
     let returns = map_of_rows returns_total exact_returns is_return_row return_entry (λ q r. returns_tie q (return_key_of r)) book.returns return_row (λ q x there. refl) (rows_in layout.returns db) rows.returns in
     let pools =
     map_of_rows nat_cmp_total exact_numbers (is_of_pool 0) (pool_entry (rows_in layout.pool_cuts db) (rows_in layout.pool_returns db) (rows_in layout.mechanical_pools db)) (λ q r. numbers_tie q (whole_number_at 0 r)) book.pools pool_row
-    (λ q x there. order_back q x (order_at book q) there (sound.orders q x there) (named q x there) (rows_in layout.pool_cuts db) (rows_in layout.pool_returns db) (rows_in layout.mechanical_pools db) (rows.cuts q) (rows.paid q) (rows.mechanical q)) (rows_in layout.pools db) rows.pools in
+    (λ q x there. order_back q x (order_at book q) there (sound.orders q x there) (named_refilled book (rows_in layout.returns db) rows.returns sound q x there) (rows_in layout.pool_cuts db) (rows_in layout.pool_returns db) (rows_in layout.mechanical_pools db) (rows.cuts q) (rows.paid q) (rows.mechanical q)) (rows_in layout.pools db) rows.pools in
     let ends = map_of_rows segments_total exact_segments is_end_row end_entry (λ q r. segments_tie q (segment_key_of r)) book.ends end_row (λ q x there. end_back q x) (rows_in layout.segment_ends db) rows.ends in
     λ i. record { transmissions = transmissions i; ends = ends i; returns = returns i; pools = pools i }
-  where
-    named : (q : ℕ) (x : Order) → order_at book q ≡ Some x → AllByRecursion IsRefilled x.returns
-    named q x there = all_refilled book (rows_in layout.returns db) rows.returns x.returns (third_holds (is_pool_number q) (list_all (is_applied book) x.cut) (list_all (λ key. is_some (return_at book key)) x.returns) (sound.pools q x there))

@@ -8,7 +8,7 @@ use Rattle.std.proofs.lemmas.Bool.Decides.{Decides-eqb}
 use Rattle.std.proofs.lemmas.List.Folds.{find-append}
 use Rattle.std.proofs.lemmas.List.Sorted.{IsPermutation-trans}
 use Rattle.std.proofs.lemmas.Slice.Eq.{bytes_eq-Decides}
-use Rattle.sqlite_keyed.proofs.ListLemmas.{IsPermutation-filter}
+use Rattle.sqlite_keyed.proofs.ListLemmas.{IsPermutation-filter, all_of}
 use Rattle.sqlite_trees.proofs.ListLemmas.{filter_same}
 use Rattle.sqlite_trees.specs.Tree.{Trees}
 use Rattle.sqlite_value.specs.declared.value.Value.TheVariants.{Text}
@@ -32,8 +32,7 @@ use Rattle.society_book.specs.Sources.{HasEnds}
 use Rattle.society_book.proofs.lemmas.rows_alike.BookLemmas.{end_back, segments_tie}
 use Rattle.society_book.proofs.lemmas.rows_alike.KeyRows.{both_same, either_way, numbers_either_way}
 use Rattle.society_book.proofs.lemmas.rows_alike.NamedRows.{HasName, keyed_as_named}
-use Rattle.society_book.proofs.lemmas.rows_alike.RowLemmas.{all_rows, only}
-use Rattle.society_book.proofs.lemmas.shown.VerdictRows.{filter_both}
+use Rattle.society_book.proofs.lemmas.rows_alike.RowLemmas.{all_rows, filter_both, only}
 use Rattle.work_ids.specs.SegmentEnds.{StatedEnd}
 use Rattle.work_ids.specs.Segments.{most_in}
 
@@ -66,10 +65,6 @@ ends_named : (key : SegmentKey) (o : Option End) → AllByRecursion HasName (row
 ends_named key None = tt
 ends_named key (Some end) = (refl, tt)
 
-every : (P : Row → Type 0) → ((row : Row) → P row) → (rows : List Row) → AllByRecursion P rows
-every P each [] = tt
-every P each (row ∷ rows) = (each row, every P each rows)
-
 first_back : (key : SegmentKey) (o : Option End) → first_end (row_of_some (end_row key) o) ≡ o
 first_back key None = refl
 first_back key (Some end) = ap Some (end_back key end)
@@ -78,24 +73,19 @@ module _ (b : Book) (db : Trees) (has : HasEnds b db) (s : List ℕ) where
   abbrev rows : List Row
   rows = rows_in layout.segment_ends db
 
-  named : filter (has_key (Text s ∷ [])) rows ≡ filter (is_named s) rows
-  named =
-      filter_same (has_key (Text s ∷ [])) (is_named s) rows
-      (keyed_as_named s rows (all_rows is_end_row segment_key_of (λ r. both_same (text_at 0 r) (segment_place_at 1 r)) HasName (end_rows b) rows has (λ q. ends_named q (end_at b q.sender q.segment))))
-
   as_key : (g : ℕ) (row : Row) → is_end_row (segment_key s g) row ≡ (is_named s row && is_at_place g row)
   as_key g row = ap₂ (λ x y. x && y) (either_way s (text_at 0 row)) (numbers_either_way g (segment_place_at 1 row))
-
-  of_key : (g : ℕ) → filter (is_end_row (segment_key s g)) rows ≡ filter (is_at_place g) (filter (is_named s) rows)
-  of_key g =
-      filter_same (is_end_row (segment_key s g)) (λ row. is_named s row && is_at_place g row) rows (every (λ row. is_end_row (segment_key s g) row ≡ (is_named s row && is_at_place g row)) (as_key g) rows)
-      ∙ filter_both (is_named s) (is_at_place g) rows
 
   module _ (found : List Row) (lists : Lists layout.segment_ends (has_key (Text s ∷ [])) 2 db found) where
     found_there : (g : ℕ) → IsPermutation (end_rows b (segment_key s g)) (filter (is_at_place g) found)
     found_there g =
+        let keyed = all_rows is_end_row segment_key_of (λ r. both_same (text_at 0 r) (segment_place_at 1 r)) HasName (end_rows b) rows has (λ q. ends_named q (end_at b q.sender q.segment)) in
+        let named : filter (has_key (Text s ∷ [])) rows ≡ filter (is_named s) rows = filter_same (has_key (Text s ∷ [])) (is_named s) rows (keyed_as_named s rows keyed) in
+        let of_key : filter (is_end_row (segment_key s g)) rows ≡ filter (is_at_place g) (filter (is_named s) rows) =
+        filter_same (is_end_row (segment_key s g)) (λ r. is_named s r && is_at_place g r) rows (all_of (λ r. is_end_row (segment_key s g) r ≡ (is_named s r && is_at_place g r)) (as_key g) rows)
+        ∙ filter_both (is_named s) (is_at_place g) rows in
         IsPermutation-trans (end_rows b (segment_key s g)) (filter (is_end_row (segment_key s g)) rows) (filter (is_at_place g) found) (has (segment_key s g))
-        (subst (λ (l : List Row). IsPermutation l (filter (is_at_place g) found)) (sym (of_key g))
+        (subst (λ (l : List Row). IsPermutation l (filter (is_at_place g) found)) (sym of_key)
         (IsPermutation-filter (is_at_place g) (filter (is_named s) rows) found (subst (λ (l : List Row). IsPermutation l found) named lists.rows)))
 
     shown_at : (g : ℕ) → end_shown found g ≡ end_at b s g
@@ -183,7 +173,7 @@ none_some x e = cc
 some_same : {X : Type 0} (x y : X) → ◌≡◌ {A = Option X} (Some x) (Some y) → x ≡ y
 some_same x y e = cc
 
-no_fault : {X : Type 0} (o : Option X) → is_none o ≡ true → o ≡ None
+pub no_fault : {X : Type 0} (o : Option X) → is_none o ≡ true → o ≡ None
 no_fault None h = refl
 no_fault (Some x) h = absurd (false≢true h)
 

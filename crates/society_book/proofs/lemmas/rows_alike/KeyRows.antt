@@ -1,12 +1,9 @@
 -- What the tables have under a name and a number in their first two columns.
-use Rattle.std.proofs.Common.{◌≡◌, ◌∙◌, ◌==◌, ℕ, pos, Bool, true, false, ◌&&◌, List, [], ◌∷◌, inl, inr, Option, Some, None, is_some, Result, Ok, Err, cond, length, nat_le, refl, ap, ap₂, subst, sym, arith, filter, map, take, bytes_eq, IsPermutation}
-use Rattle.std.specs.List.{AllByRecursion}
+use Rattle.std.proofs.Common.{◌≡◌, ◌∙◌, ◌==◌, ℕ, pos, Bool, true, false, ◌&&◌, List, [], ◌∷◌, inl, inr, Option, Some, None, is_some, Result, Ok, Err, cond, length, nat_le, refl, ap, ap₂, sym, arith, map, take, bytes_eq}
+use Rattle.std.specs.List.{AllByRecursion, list_all}
 use Rattle.std.proofs.lemmas.Bool.Decides.{nat_tests}
-use Rattle.std.proofs.lemmas.List.Sorted.{IsPermutation-trans}
 use Rattle.std.proofs.lemmas.Slice.Eq.{bytes_eq-Decides}
 use Rattle.sqlite_schema.specs.Rules.{equal}
-use Rattle.sqlite_schema.specs.declared.schema.Table.{Table}
-use Rattle.sqlite_trees.proofs.ListLemmas.{filter_same}
 use Rattle.sqlite_trees.specs.Tree.{Trees}
 use Rattle.sqlite_value.specs.declared.keys.Collation.TheVariants.{Binary}
 use Rattle.sqlite_value.specs.declared.value.Value.TheVariants.{Int, Text}
@@ -25,24 +22,25 @@ use Rattle.work_ids.specs.Blanks.{fill, without_trailing_blanks}
 use Rattle.work_ids.specs.Characters.{is_capital_or_digit}
 use Rattle.work_ids.specs.Reporter.{reporter_of}
 use Rattle.work_ids.specs.declared.fault.IdFault.TheVariants.{Length, Character}
-use Rattle.std.specs.List.{list_all}
 use Rattle.society_book.proofs.lemmas.rows_alike.BookLemmas.{IsRefilled, refilled}
-use Rattle.society_book.proofs.lemmas.rows_alike.Equals.{numbers_equal, texts_equal}
-use Rattle.society_book.proofs.lemmas.rows_alike.RowLemmas.{all_rows, only}
+use Rattle.society_rows.proofs.lemmas.readings.KeyEquality.{int_equal, text_equal}
+use Rattle.society_book.proofs.lemmas.rows_alike.RowLemmas.{found_under, only}
 use Rattle.share_rules.specs.declared.office.Office.{Office}
+use Rattle.std.specs.Ordering.{int_cmp, is_eq}
+use Rattle.work_ids.specs.declared.fault.IdFault.{IdFault}
 
 -- the first two columns are a text and a whole number from 0
 abbrev pub HasKeyForm : Row → Type 0
 HasKeyForm row = (column row 0 ≡ Text (text_at 0 row)) × (column row 1 ≡ Int (pos (whole_number_at 1 row)))
 
+pub same_truth : (a b : Bool) → (a ≡ true → b ≡ true) → (b ≡ true → a ≡ true) → a ≡ b
+same_truth true true f g = refl
+same_truth false false f g = refl
+same_truth true false f g = sym (f refl)
+same_truth false true f g = g refl
+
 pub either_way : (a b : List ℕ) → bytes_eq a b ≡ bytes_eq b a
-either_way a b = by_case (bytes_eq a b) (bytes_eq b a) refl refl
-  where
-    by_case : (x y : Bool) → bytes_eq a b ≡ x → bytes_eq b a ≡ y → x ≡ y
-    by_case true true p q = refl
-    by_case false false p q = refl
-    by_case true false p q = sym (sym q ∙ (bytes_eq-Decides b a).1 (sym ((bytes_eq-Decides a b).0 p)))
-    by_case false true p q = sym p ∙ (bytes_eq-Decides a b).1 (sym ((bytes_eq-Decides b a).0 q))
+either_way a b = same_truth (bytes_eq a b) (bytes_eq b a) (λ e. (bytes_eq-Decides b a).1 (sym ((bytes_eq-Decides a b).0 e))) (λ e. (bytes_eq-Decides a b).1 (sym ((bytes_eq-Decides b a).0 e)))
 
 pub numbers_either_way : (a b : ℕ) → (a == b) ≡ (b == a)
 numbers_either_way a b = grind (arith, nat_tests)
@@ -51,34 +49,23 @@ pub last_truth : (b : Bool) → (b && true) ≡ b
 last_truth true = refl
 last_truth false = refl
 
-module _ {K : Type 0} (P : Row → Type 0) (is_of : K → Row → Bool) (key_of : Row → K) (own : (r : Row) → is_of (key_of r) r ≡ true) (key : K) (s : List ℕ) (n : ℕ) (means : (r : Row) → P r → has_key (Text s ∷ Int (pos n) ∷ []) r ≡ is_of key r) where
-  as_keyed : (rows : List Row) → AllByRecursion P rows → AllByRecursion (λ r. has_key (Text s ∷ Int (pos n) ∷ []) r ≡ is_of key r) rows
-  as_keyed [] h = tt
-  as_keyed (r ∷ rows) h = (means r h.0, as_keyed rows h.1)
-
-  -- the rows that SQL finds under a name and a number are those that the key is to have
-  pub found_by_key : (table : Table) (expected : K → List Row) (width : ℕ) (db : Trees) (found : List Row) → HasRows is_of expected (rows_in table db) → ((q : K) → AllByRecursion P (expected q)) → Lists table (has_key (Text s ∷ Int (pos n) ∷ [])) width db found → IsPermutation (expected key) found
-  found_by_key table expected width db found has formed lists =
-      let forms = all_rows is_of key_of own P expected (rows_in table db) has formed in
-      let same : filter (has_key (Text s ∷ Int (pos n) ∷ [])) (rows_in table db) ≡ filter (is_of key) (rows_in table db) = filter_same (has_key (Text s ∷ Int (pos n) ∷ [])) (is_of key) (rows_in table db) (as_keyed (rows_in table db) forms) in
-      IsPermutation-trans (expected key) (filter (is_of key) (rows_in table db)) found (has key) (subst (λ l. IsPermutation l found) same lists.rows)
+-- whole numbers are equal where they are
+pub numbers_equal : (a b : ℕ) → equal Binary (Int (pos a)) (Int (pos b)) ≡ (a == b)
+numbers_equal a b = int_equal (pos a) (pos b) ∙ ints_tie a b
+  where
+    ints_tie : (m n : ℕ) → is_eq (int_cmp (pos m) (pos n)) ≡ (m == n)
+    ints_tie m n = grind (arith, nat_tests)
 
 -- what SQL tests of a row with a text and a number in front
 pub keyed : (s : List ℕ) (n : ℕ) (r : Row) → HasKeyForm r → has_key (Text s ∷ Int (pos n) ∷ []) r ≡ (bytes_eq s (text_at 0 r) && n == whole_number_at 1 r)
 keyed s n r h =
     ap₂ (λ x y. x && y)
-    (ap (λ v. equal Binary v (Text s)) h.0 ∙ texts_equal (text_at 0 r) s ∙ either_way (text_at 0 r) s)
+    (ap (λ v. equal Binary v (Text s)) h.0 ∙ text_equal (text_at 0 r) s ∙ either_way (text_at 0 r) s)
     (last_truth (equal Binary (column r 1) (Int (pos n))) ∙ ap (λ v. equal Binary v (Int (pos n))) h.1 ∙ numbers_equal (whole_number_at 1 r) n ∙ numbers_either_way (whole_number_at 1 r) n)
 
 -- a row of a return: its text is that of the reporter that it is filled to
 abbrev pub IsReturnForm : Row → Type 0
 IsReturnForm row = HasKeyForm row × (without_trailing_blanks (fill 20 (text_at 0 row)) ≡ text_at 0 row)
-
-pub same_truth : (a b : Bool) → (a ≡ true → b ≡ true) → (b ≡ true → a ≡ true) → a ≡ b
-same_truth true true f g = refl
-same_truth false false f g = refl
-same_truth true false f g = sym (f refl)
-same_truth false true f g = g refl
 
 pub filled_same : (reporter text : List ℕ) → fill 20 (without_trailing_blanks reporter) ≡ reporter → without_trailing_blanks (fill 20 text) ≡ text → bytes_eq (without_trailing_blanks reporter) text ≡ bytes_eq reporter (fill 20 text)
 filled_same reporter text whole short =
@@ -101,7 +88,7 @@ transmissions_formed key (Some body) = ((refl, refl), tt)
 pub return_listed : (b : Book) (db : Trees) → HasRows is_return_row (return_rows b) (rows_in layout.returns db) → (key : ReturnKey) → IsRefilled key → (found : List Row) → Lists layout.returns (has_key (Text (without_trailing_blanks key.reporter) ∷ Int (pos key.number) ∷ [])) 2 db found → found ≡ return_rows b key
 return_listed b db has key whole found lists =
     only (return_row key) (return_at b key) found
-    (found_by_key IsReturnForm is_return_row return_key_of (λ r. both_same (fill 20 (text_at 0 r)) (whole_number_at 1 r)) key (without_trailing_blanks key.reporter) key.number
+    (found_under IsReturnForm is_return_row return_key_of (λ r. both_same (fill 20 (text_at 0 r)) (whole_number_at 1 r)) key (has_key (Text (without_trailing_blanks key.reporter) ∷ Int (pos key.number) ∷ []))
     (λ r form. keyed (without_trailing_blanks key.reporter) key.number r form.0 ∙ ap (λ x. x && key.number == whole_number_at 1 r) (filled_same key.reporter (text_at 0 r) whole form.1))
     layout.returns (return_rows b) 2 db found has (λ q. returns_formed q (return_at b q) (λ there. refilled b (rows_in layout.returns db) has q there)) lists)
 
@@ -112,7 +99,7 @@ return_found o b db holds key whole found lists = return_listed b db holds.kept.
 pub transmission_listed : (b : Book) (db : Trees) → HasRows is_transmission_row (transmission_rows b) (rows_in layout.transmissions db) → (key : TransmissionKey) (found : List Row) → Lists layout.transmissions (has_key (Text key.sender ∷ Int (pos key.number) ∷ [])) 2 db found → found ≡ row_of_some (transmission_row key) (body_at b key.sender key.number)
 transmission_listed b db has key found lists =
     only (transmission_row key) (body_at b key.sender key.number) found
-    (found_by_key HasKeyForm is_transmission_row transmission_key_of (λ r. both_same (text_at 0 r) (whole_number_at 1 r)) key key.sender key.number (λ r form. keyed key.sender key.number r form) layout.transmissions (transmission_rows b) 2 db found has (λ q. transmissions_formed q (body_at b q.sender q.number)) lists)
+    (found_under HasKeyForm is_transmission_row transmission_key_of (λ r. both_same (text_at 0 r) (whole_number_at 1 r)) key (has_key (Text key.sender ∷ Int (pos key.number) ∷ [])) (λ r form. keyed key.sender key.number r form) layout.transmissions (transmission_rows b) 2 db found has (λ q. transmissions_formed q (body_at b q.sender q.number)) lists)
 
 -- and it shows its bytes
 pub return_shows_by : (b : Book) (db : Trees) → HasRows is_return_row (return_rows b) (rows_in layout.returns db) → (key : ReturnKey) → IsRefilled key → (found : List Row) → Lists layout.returns (has_key (Text (without_trailing_blanks key.reporter) ∷ Int (pos key.number) ∷ [])) 2 db found → ShowBody (return_at b key) found
@@ -143,14 +130,13 @@ transmission_shows_by b db has key found lists = shows (body_at b key.sender key
 pub transmission_shows : (o : Office) (b : Book) (db : Trees) → HoldsBook o b db → (key : TransmissionKey) (found : List Row) → Lists layout.transmissions (has_key (Text key.sender ∷ Int (pos key.number) ∷ [])) 2 db found → ShowBody (body_at b key.sender key.number) found
 transmission_shows o b db holds key found lists = transmission_shows_by b db holds.kept.transmissions key found lists
 
-ok_of : {A E : Type 0} (x y : A) → ◌≡◌ {A = Result A E} (Ok x) (Ok y) → x ≡ y
-ok_of x y e = cc
+-- what two tests let through is what was given
+pub let_through : {X : Type 0} (a b : Bool) (x y : X) (e f : IdFault) → ◌≡◌ {A = Result X IdFault} (cond a (cond b (Ok x) (Err e)) (Err f)) (Ok y) → (a ≡ true) × (x ≡ y)
+let_through true true x y e f h = let same : x ≡ y = cc in (refl, same)
+let_through true false x y e f h = absurd (let z = h in cc)
+let_through false b x y e f h = absurd (let z = h in cc)
 
 -- a reporter that its text reads back is filled again
 pub refilled_by : (reporter text : List ℕ) → text ≡ without_trailing_blanks reporter → reporter_of text ≡ Ok reporter → fill 20 (without_trailing_blanks reporter) ≡ reporter
-refilled_by reporter text is back = ap (fill 20) (sym is) ∙ by_length (nat_le 1 (length text) && nat_le (length text) 20) (list_all is_capital_or_digit text) back
-  where
-    by_length : (a b : Bool) → (cond a (cond b (Ok (fill 20 text)) (Err Character)) (Err Length)) ≡ Ok reporter → fill 20 text ≡ reporter
-    by_length true true e = ok_of (fill 20 text) reporter e
-    by_length true false e = absurd (let x = e in cc)
-    by_length false b e = absurd (let x = e in cc)
+refilled_by reporter text is back =
+    ap (fill 20) (sym is) ∙ (let_through (nat_le 1 (length text) && nat_le (length text) 20) (list_all is_capital_or_digit text) (fill 20 text) reporter Character Length back).1

@@ -1,17 +1,21 @@
 -- Rows by their keys: what more rows add, and the maps that the rows of keys make.
-use Rattle.std.proofs.Common.{◌≡◌, ◌<◌, ℕ, Bool, true, false, cond, List, [], ◌∷◌, ◌++◌, Option, Some, None, refl, ap, subst, sym, ◌∙◌, map, length, filter, IsPermutation, arith}
+use Rattle.std.proofs.Common.{◌≡◌, ◌<◌, ℕ, Bool, true, false, cond, List, [], ◌∷◌, ◌++◌, Option, Some, None, refl, ap, subst, sym, ◌∙◌, map, length, filter, IsPermutation, arith, ap₂, ◌&&◌, ◌||◌}
 use Rattle.std.specs.FinMap.{FinMap, IsAntisymmetric, find, from_entries, get, get-from_entries, same_map}
 use Rattle.std.specs.Cmp.{IsTotalOrder}
-use Rattle.std.specs.List.{AllByRecursion, swap}
+use Rattle.std.specs.List.{AllByRecursion, list_any, swap}
 use Rattle.std.specs.Ordering.{eq_by_cmp}
 use Rattle.std.specs.declared.cmp.Ordering.{Ordering}
 use Rattle.std.proofs.lemmas.List.Elements.{filter-append}
 use Rattle.std.proofs.lemmas.List.Sorted.{IsPermutation-append, IsPermutation-keeps, IsPermutation-refl, IsPermutation-trans}
-use Rattle.sqlite_keyed.proofs.ListLemmas.{IsPermutation-filter}
-use Rattle.sqlite_trees.proofs.ListLemmas.{all-permutation}
+use Rattle.sqlite_keyed.proofs.ListLemmas.{IsPermutation-filter, all_weaker}
+use Rattle.sqlite_trees.proofs.ListLemmas.{all-permutation, filter_same}
 use Rattle.sqlite_value.specs.Order.{Row}
 use Rattle.society_book.specs.BookRows.{row_of_some}
 use Rattle.society_book.specs.Columns.{HasRows}
+use Rattle.sqlite_schema.specs.declared.schema.Table.{Table}
+use Rattle.sqlite_trees.specs.Tree.{Trees}
+use Rattle.society_rows.specs.Reads.{Lists}
+use Rattle.society_rows.specs.Stored.{rows_in}
 
 not_below : (i : ℕ) → i < 0 → ⊥
 not_below i h = omega arith
@@ -67,6 +71,35 @@ module _ {K : Type 0} (is_of : K → Row → Bool) (key_of : Row → K) (own : (
   -- what holds of the rows that the keys are to have holds of all rows
   pub all_rows : (expected : K → List Row) (rows : List Row) → HasRows is_of expected rows → ((q : K) → AllByRecursion P (expected q)) → AllByRecursion P rows
   all_rows expected rows has good = each rows (λ q. all-permutation P (expected q) (filter (is_of q) rows) (has q) (good q))
+
+-- tests that are the same of each find the same
+pub any_same : {X : Type 0} (p q : X → Bool) → ((x : X) → p x ≡ q x) → (xs : List X) → list_any p xs ≡ list_any q xs
+any_same p q same [] = refl
+any_same p q same (x ∷ xs) = ap₂ (λ (a b : Bool). a || b) (same x) (any_same p q same xs)
+
+-- two tests are one after the other
+pub filter_both : {X : Type 0} (p q : X → Bool) (xs : List X) → filter (λ x. p x && q x) xs ≡ filter q (filter p xs)
+filter_both p q [] = refl
+filter_both {X} p q (x ∷ xs) = by_case (p x) (filter_both p q xs)
+  where
+    by_case : (b : Bool) → filter (λ z. p z && q z) xs ≡ filter q (filter p xs) → cond (b && q x) (x ∷ filter (λ z. p z && q z) xs) (filter (λ z. p z && q z) xs) ≡ filter q (cond b (x ∷ filter p xs) (filter p xs))
+    by_case true e = ap (λ (l : List X). cond (q x) (x ∷ l) l) e
+    by_case false e = e
+
+module _ {K : Type 0} (P : Row → Type 0) (is_of : K → Row → Bool) (key_of : Row → K) (own : (r : Row) → is_of (key_of r) r ≡ true) (key : K) (test : Row → Bool) where
+  -- the rows that a test finds which is that of a key are those that the key is to have
+  pub found_under : ((r : Row) → P r → test r ≡ is_of key r) → (table : Table) (expected : K → List Row) (width : ℕ) (db : Trees) (found : List Row) → HasRows is_of expected (rows_in table db) → ((q : K) → AllByRecursion P (expected q)) → Lists table test width db found → IsPermutation (expected key) found
+  found_under means table expected width db found has formed lists =
+      let rows = rows_in table db in
+      let same : filter test rows ≡ filter (is_of key) rows = filter_same test (is_of key) rows (all_weaker P (λ r. test r ≡ is_of key r) means rows (all_rows is_of key_of own P expected rows has formed)) in
+      IsPermutation-trans (expected key) (filter (is_of key) rows) found (has key) (subst (λ (l : List Row). IsPermutation l found) same lists.rows)
+
+  -- and with another test besides, those of them that pass it
+  pub found_among : (also : Row → Bool) → ((r : Row) → P r → test r ≡ (is_of key r && also r)) → (table : Table) (expected : K → List Row) (db : Trees) (found : List Row) → HasRows is_of expected (rows_in table db) → ((q : K) → AllByRecursion P (expected q)) → IsPermutation (filter test (rows_in table db)) found → IsPermutation (filter also (expected key)) found
+  found_among also means table expected db found has formed these =
+      let rows = rows_in table db in
+      let same : filter test rows ≡ filter also (filter (is_of key) rows) = filter_same test (λ r. is_of key r && also r) rows (all_weaker P (λ r. test r ≡ (is_of key r && also r)) means rows (all_rows is_of key_of own P expected rows has formed)) ∙ filter_both (is_of key) also rows in
+      IsPermutation-trans (filter also (expected key)) (filter also (filter (is_of key) rows)) found (IsPermutation-filter also (expected key) (filter (is_of key) rows) (has key)) (subst (λ (l : List Row). IsPermutation l found) same these)
 
 abbrev pub first_value : {K X : Type 0} → (Row → K × X) → List Row → Option X
 first_value entry [] = None

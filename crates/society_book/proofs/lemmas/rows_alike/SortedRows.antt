@@ -1,8 +1,8 @@
 -- Rows that ascend by their keys, and what is read back of them.
-use Rattle.std.proofs.Common.{◌≡◌, ◌∙◌, ◌<◌, ◌+◌, ℕ, pos, Bool, true, false, cond, List, [], ◌∷◌, ◌++◌, ◌==◌, ◌||◌, Option, Some, refl, ap, ap₂, sym, subst, arith, map, filter, IsPermutation, Less, Equal, int_cmp, IsSorted, eqb-true}
+use Rattle.std.proofs.Common.{◌≡◌, ◌∙◌, ◌<◌, ◌+◌, ℕ, pos, Bool, true, false, List, [], ◌∷◌, ◌++◌, ◌==◌, ◌||◌, Option, Some, refl, ap, ap₂, sym, subst, arith, map, filter, IsPermutation, Less, Equal, int_cmp, IsSorted, eqb-true, ne_eqb}
 use Rattle.std.specs.List.{AllByRecursion, enumerate_from, flat_map}
 use Rattle.std.specs.Ordering.{ordering_then}
-use Rattle.std.proofs.lemmas.Bool.{false≢true}
+use Rattle.std.proofs.lemmas.Bool.{eq-eqb, false_from_ne_true, false≢true, or_parts}
 use Rattle.std.proofs.lemmas.Bool.Decides.{nat_tests}
 use Rattle.std.proofs.lemmas.List.{append-nil}
 use Rattle.std.proofs.lemmas.Cmp.{tied_itself}
@@ -22,6 +22,7 @@ use Rattle.sender_segments.specs.Ascends.{Ascends}
 use Rattle.society_core.specs.Book.{is_one_of}
 use Rattle.society_core.proofs.lemmas.LineNumbers.{ascends_bounds, is_first}
 use Rattle.society_book.specs.Columns.{whole_number_at}
+use Rattle.sqlite_keyed.proofs.ListLemmas.{all_weaker, filter_all, filter_none}
 
 tie : (v : Value) → by_key (ascending Binary) v v ≡ Equal
 tie v = tied_itself (by_key_total (ascending Binary)) v
@@ -79,39 +80,21 @@ module _ {X : Type 0} (row : ℕ → X → Row) (read : Row → Option X) (IsTol
 abbrev pub is_numbered : ℕ → Row → Bool
 is_numbered n row = n == whole_number_at 1 row
 
-pub same_numbers : (n k : ℕ) → n ≡ k → (n == k) ≡ true
-same_numbers n k e = grind (arith, nat_tests)
-
-other_numbers : (n k : ℕ) → (n ≡ k → ⊥) → (n == k) ≡ false
-other_numbers n k h = by_case (n == k) refl
-  where
-    by_case : (b : Bool) → (n == k) ≡ b → b ≡ false
-    by_case false e = refl
-    by_case true e = absurd (h (eqb-true n k e))
-
 module _ (f : ℕ → List Row) (own : (k : ℕ) → AllByRecursion (λ row. whole_number_at 1 row ≡ k) (f k)) (n : ℕ) where
   all_kept : (k : ℕ) → n ≡ k → (rows : List Row) → AllByRecursion (λ row. whole_number_at 1 row ≡ k) rows → filter (is_numbered n) rows ≡ rows
-  all_kept k e [] all = refl
-  all_kept k e (row ∷ rows) all =
-      ap (λ b. cond b (row ∷ filter (is_numbered n) rows) (filter (is_numbered n) rows)) (same_numbers n (whole_number_at 1 row) (e ∙ sym all.0))
-      ∙ ap (λ l. row ∷ l) (all_kept k e rows all.1)
+  all_kept k e rows all =
+      filter_all (is_numbered n) rows (all_weaker (λ row. whole_number_at 1 row ≡ k) (λ row. is_numbered n row ≡ true) (λ row at. eq-eqb n (whole_number_at 1 row) (e ∙ sym at)) rows all)
 
   none_kept : (k : ℕ) → (n ≡ k → ⊥) → (rows : List Row) → AllByRecursion (λ row. whole_number_at 1 row ≡ k) rows → filter (is_numbered n) rows ≡ []
-  none_kept k apart [] all = refl
-  none_kept k apart (row ∷ rows) all =
-      ap (λ b. cond b (row ∷ filter (is_numbered n) rows) (filter (is_numbered n) rows)) (other_numbers n (whole_number_at 1 row) (λ e. apart (e ∙ all.0)))
-      ∙ none_kept k apart rows all.1
+  none_kept k apart rows all =
+      filter_none (is_numbered n) rows (all_weaker (λ row. whole_number_at 1 row ≡ k) (λ row. is_numbered n row ≡ false) (λ row at. ne_eqb n (whole_number_at 1 row) (λ e. apart (e ∙ at))) rows all)
 
   -- no row of a number that is not among some
   pub none_among : (ns : List ℕ) → is_one_of ns n ≡ false → filter (is_numbered n) (flat_map f ns) ≡ []
   none_among [] h = refl
   none_among (k ∷ ns) h =
       filter-append (is_numbered n) (f k) (flat_map f ns)
-      ∙ ap₂ ◌++◌ (none_kept k (λ e. false≢true (sym h ∙ subst (λ (m : ℕ). is_one_of (k ∷ ns) m ≡ true) (sym e) (is_first k ns))) (f k) (own k)) (none_among ns (later (k == n) (is_one_of ns n) h))
-    where
-      later : (a b : Bool) → (a || b) ≡ false → b ≡ false
-      later false b h = h
-      later true b h = absurd (false≢true (sym h))
+      ∙ ap₂ ◌++◌ (none_kept k (λ e. false≢true (sym h ∙ subst (λ (m : ℕ). is_one_of (k ∷ ns) m ≡ true) (sym e) (is_first k ns))) (f k) (own k)) (none_among ns (or_parts (k == n) (is_one_of ns n) h).1)
 
   -- and those of one that is, where they ascend
   pub those_of : (low high : ℕ) (ns : List ℕ) → Ascends low ns high → is_one_of ns n ≡ true → filter (is_numbered n) (flat_map f ns) ≡ f n
@@ -119,15 +102,11 @@ module _ (f : ℕ → List Row) (own : (k : ℕ) → AllByRecursion (λ row. who
   those_of low high (k ∷ ns) rise h = filter-append (is_numbered n) (f k) (flat_map f ns) ∙ by_case (k == n) refl h (those_of k high ns rise.1)
     where
       behind : k ≡ n → is_one_of ns n ≡ false
-      behind same = by_one (is_one_of ns n) refl
-        where
-          by_one : (x : Bool) → is_one_of ns n ≡ x → x ≡ false
-          by_one false is = refl
-          by_one true is = let above = (ascends_bounds k high ns n rise.1 is).0 in absurd (omega (arith, above, same))
+      behind same = false_from_ne_true (is_one_of ns n) (λ is. let above = (ascends_bounds k high ns n rise.1 is).0 in absurd (omega (arith, above, same)))
 
       by_case : (x : Bool) → (k == n) ≡ x → (x || is_one_of ns n) ≡ true → (is_one_of ns n ≡ true → filter (is_numbered n) (flat_map f ns) ≡ f n) → filter (is_numbered n) (f k) ++ filter (is_numbered n) (flat_map f ns) ≡ f n
       by_case true e one later =
           let here : k ≡ n = eqb-true k n e in
           ap₂ ◌++◌ (all_kept k (sym here) (f k) (own k)) (none_among ns (behind here))
           ∙ append-nil (f k) ∙ ap f here
-      by_case false e one later = ap₂ ◌++◌ (none_kept k (λ same. false≢true (sym e ∙ same_numbers k n (sym same))) (f k) (own k)) (later one)
+      by_case false e one later = ap₂ ◌++◌ (none_kept k (λ same. false≢true (sym e ∙ eq-eqb k n (sym same))) (f k) (own k)) (later one)

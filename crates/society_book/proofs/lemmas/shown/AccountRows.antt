@@ -16,7 +16,7 @@ use Rattle.society_book.specs.Shown.{ShowUnits}
 use Rattle.society_book.proofs.lemmas.rows_alike.NamedRows.{HasName, found_by_name}
 use Rattle.society_book.proofs.lemmas.rows_alike.RowLemmas.{none_else, one_else}
 
-balances_named : (a : List ℕ) (cs : List Credit) → AllByRecursion HasName (balance_rows_by a cs)
+pub balances_named : (a : List ℕ) (cs : List Credit) → AllByRecursion HasName (balance_rows_by a cs)
 balances_named a [] = tt
 balances_named a (c ∷ cs) = (refl, tt)
 

@@ -1,5 +1,5 @@
 -- The texts of accounts that a book credits, and the units under a text.
-use Rattle.std.proofs.Common.{◌≡◌, ◌∙◌, ◌++◌, ◌-◌, ◌≤◌, ◌&&◌, ℕ, Bool, true, false, cond, List, [], ◌∷◌, length, take, drop, replicate, map, filter, nat_le, Option, Some, None, option_map, Result, Ok, Err, refl, ap, ap₂, sym, arith, bytes_eq, length-append, eqb, eqb-true}
+use Rattle.std.proofs.Common.{◌≡◌, ◌∙◌, ◌++◌, ◌-◌, ◌≤◌, ◌&&◌, ℕ, Bool, true, false, cond, List, [], ◌∷◌, length, take, drop, replicate, map, filter, nat_le, Option, Some, None, option_map, Result, Ok, Err, refl, ap, ap₂, sym, arith, bytes_eq, length-append, eqb, eqb-true, ◌||◌, get_or, not}
 use Rattle.std.specs.List.{AllByRecursion, enumerate_from, flat_map, list_all, sum_by, zip}
 use Rattle.std.proofs.lemmas.Bool.Decides.{nat_tests}
 use Rattle.std.proofs.lemmas.List.{drop_at, length-replicate, take_at}
@@ -12,7 +12,7 @@ use Rattle.pool_split.specs.Credits.{claim_credits, claim_credits_by, credits, h
 use Rattle.pool_split.specs.Split.{split_of}
 use Rattle.pool_split.specs.declared.claim.Claim.{Claim}
 use Rattle.pool_split.specs.declared.claim.Credit.{Credit}
-use Rattle.share_rules.specs.Parties.{Interest, interests}
+use Rattle.share_rules.specs.Parties.{interests}
 use Rattle.share_rules.specs.Weights.{account_by, holder_of, numbered_account, unclaimed_beside, weights_of}
 use Rattle.share_rules.specs.declared.holder.Holder.{Holder}
 use Rattle.share_rules.specs.declared.office.Office.{Office}
@@ -31,7 +31,7 @@ use Rattle.society_core.specs.Pools.{all_credits, balance, claim_of, claims_of, 
 use Rattle.society_core.specs.declared.transmission_key.TransmissionKey.{TransmissionKey}
 use Rattle.society_book.specs.DerivedRows.{credits_to}
 use Rattle.society_book.specs.Shown.{IsFilled}
-use Rattle.society_book.proofs.lemmas.rows_alike.KeyRows.{same_truth}
+use Rattle.society_book.proofs.lemmas.rows_alike.KeyRows.{let_through, same_truth}
 use Rattle.std.specs.FinMap as finite
 use Rattle.work_ids.proofs.lemmas.Trailing.{filled_again}
 use Rattle.work_ids.specs.Account.{account_text}
@@ -40,7 +40,6 @@ use Rattle.work_ids.specs.Characters.{is_capital_or_digit, is_printable}
 use Rattle.work_ids.specs.IpiName.{ipi_field_of}
 use Rattle.work_ids.specs.Segments.{is_transmission_number}
 use Rattle.work_ids.specs.PartyNumber.{is_party_number, party_number_of}
-use Rattle.std.proofs.Common.{◌||◌, get_or, not}
 use Rattle.work_ids.specs.SenderKey.{is_sender_key}
 use Rattle.work_ids.specs.declared.account.Account.{Account}
 use Rattle.work_ids.specs.declared.account.Account.TheVariants.{Ipi, Party, Unclaimed}
@@ -49,6 +48,8 @@ use Rattle.work_ids.specs.declared.fault.IdFault.TheVariants.{Length, Character}
 use Rattle.cwr_files.specs.FileFault.{file_fault}
 use Rattle.std.specs.Prelude.{is_none}
 use Rattle.share_rules.specs.declared.kind.Kind.{Kind}
+use Rattle.sqlite_keyed.proofs.ListLemmas.{all-append, all-filter, all-flat_map, all-map, all_from_test, all_map, all_of, all_weaker}
+use Rattle.std.proofs.lemmas.Bool.{and_from}
 
 -- ---- one text, one account
 
@@ -61,15 +62,12 @@ parts_same s t n m long also e = (
   sym (drop_at s n 11 long) ∙ ap (drop 11) e ∙ drop_at t m 11 also,
 )
 
-both_true : (a b : Bool) → a ≡ true → b ≡ true → (a && b) ≡ true
-both_true a b x y = ap₂ (λ p q. p && q) x y
-
 parties_same : (s t n m : List ℕ) → IsFilled (Party s n) → IsFilled (Party t m) → bytes_eq (account_text (Party s n)) (account_text (Party t m)) ≡ same_account (Party t m) (Party s n)
 parties_same s t n m filled also =
     same_truth (bytes_eq (account_text (Party s n)) (account_text (Party t m))) (bytes_eq t s && bytes_eq m n)
     (λ e.
     let same = parts_same s t (without_trailing_blanks n) (without_trailing_blanks m) filled.0 also.0 (same_tail 80 (s ++ without_trailing_blanks n) (t ++ without_trailing_blanks m) ((bytes_eq-Decides (account_text (Party s n)) (account_text (Party t m))).0 e)) in
-    both_true (bytes_eq t s) (bytes_eq m n)
+    and_from (bytes_eq t s) (bytes_eq m n)
     ((bytes_eq-Decides t s).1 (sym same.0))
     ((bytes_eq-Decides m n).1 (sym (filled_again 9 m also.1) ∙ ap (fill 9) (sym same.1) ∙ filled_again 9 n filled.1)))
     (λ e.
@@ -100,31 +98,7 @@ one_text Unclaimed (Party t m) p q = refl
 abbrev pub CreditsFilled : List Credit → Type 0
 CreditsFilled = AllByRecursion (λ (c : Credit). IsFilled c.account)
 
-pub all_append : {X : Type 0} (P : X → Type 0) (xs ys : List X) → AllByRecursion P xs → AllByRecursion P ys → AllByRecursion P (xs ++ ys)
-all_append P [] ys a b = b
-all_append P (x ∷ xs) ys a b = (a.0, all_append P xs ys a.1 b)
-
-pub all_flat : {X Y : Type 0} (P : Y → Type 0) (f : X → List Y) (Q : X → Type 0) → ((x : X) → Q x → AllByRecursion P (f x)) → (xs : List X) → AllByRecursion Q xs → AllByRecursion P (flat_map f xs)
-all_flat P f Q h [] all = tt
-all_flat P f Q h (x ∷ xs) all = all_append P (f x) (flat_map f xs) (h x all.0) (all_flat P f Q h xs all.1)
-
-pub all_of : {X : Type 0} (Q : X → Type 0) → ((x : X) → Q x) → (xs : List X) → AllByRecursion Q xs
-all_of Q h [] = tt
-all_of Q h (x ∷ xs) = (h x, all_of Q h xs)
-
-pub all_mapped : {X Y : Type 0} (P : Y → Type 0) (f : X → Y) (Q : X → Type 0) → ((x : X) → Q x → P (f x)) → (xs : List X) → AllByRecursion Q xs → AllByRecursion P (map f xs)
-all_mapped P f Q h [] all = tt
-all_mapped P f Q h (x ∷ xs) all = (h x all.0, all_mapped P f Q h xs all.1)
-
-filter_all : {X : Type 0} (P : X → Type 0) (p : X → Bool) (xs : List X) → AllByRecursion P xs → AllByRecursion P (filter p xs)
-filter_all P p [] all = tt
-filter_all P p (x ∷ xs) all = by_case (p x) (filter_all P p xs all.1)
-  where
-    by_case : (b : Bool) → AllByRecursion P (filter p xs) → AllByRecursion P (cond b (x ∷ filter p xs) (filter p xs))
-    by_case true more = (all.0, more)
-    by_case false more = more
-
-zip_all : {X Y : Type 0} (P : X → Type 0) (xs : List X) (ys : List Y) → AllByRecursion P xs → AllByRecursion (λ (z : X × Y). P z.0) (zip xs ys)
+pub zip_all : {X Y : Type 0} (P : X → Type 0) (xs : List X) (ys : List Y) → AllByRecursion P xs → AllByRecursion (λ (z : X × Y). P z.0) (zip xs ys)
 zip_all P [] ys all = tt
 zip_all P (x ∷ xs) [] all = tt
 zip_all P (x ∷ xs) (y ∷ ys) all = (all.0, zip_all P xs ys all.1)
@@ -135,12 +109,9 @@ nine number h =
     omega (arith, length-append number (replicate (9 - length number) 32), length-replicate {A = ℕ} (9 - length number) 32)
 
 party_filled : (field n : List ℕ) → party_number_of field ≡ Ok n → length n ≡ 9
-party_filled field n e = by_length (nat_le (length (trimmed field)) 9) refl (list_all is_printable (trimmed field)) e
-  where
-    by_length : (a : Bool) → nat_le (length (trimmed field)) 9 ≡ a → (b : Bool) → (cond a (cond b (Ok (fill 9 (trimmed field))) (Err Character)) (Err Length)) ≡ Ok n → length n ≡ 9
-    by_length true few true h = let same : fill 9 (trimmed field) ≡ n = cc in ap length (sym same) ∙ nine (trimmed field) few
-    by_length true few false h = absurd (let x = h in cc)
-    by_length false many b h = absurd (let x = h in cc)
+party_filled field n e =
+    let both = let_through (nat_le (length (trimmed field)) 9) (list_all is_printable (trimmed field)) (fill 9 (trimmed field)) n Character Length e in
+    ap length (sym both.1) ∙ nine (trimmed field) both.0
 
 numbered_filled : (s : List ℕ) (r : Result (List ℕ) IdFault) → length s ≡ 11 → ((n : List ℕ) → r ≡ Ok n → length n ≡ 9) → IsFilled (numbered_account s r)
 numbered_filled s (Err fault) long wide = tt
@@ -162,8 +133,8 @@ weights_filled : (right : Kind) (s : List ℕ) (o : Office) (t : Transaction) �
 unfolding weights_of
 weights_filled right s o t long =
     let holders = map (holder_of right s o) (interests t.records) in
-    all_append (λ (h : Holder). IsFilled h.account) holders (unclaimed_beside holders ∷ [])
-    (all_mapped (λ (h : Holder). IsFilled h.account) (holder_of right s o) (λ _. Unit {0}) (λ i _. account_filled s (ipi_field_of i.party.ipi_name) (party_number_of i.party.number) long (λ n e. party_filled i.party.number n e)) (interests t.records) (all_of (λ (_ : Interest). Unit {0}) (λ _. tt) (interests t.records)))
+    all-append (λ (h : Holder). IsFilled h.account) holders (unclaimed_beside holders ∷ [])
+    (all-map (λ (h : Holder). IsFilled h.account) (holder_of right s o) (λ i. account_filled s (ipi_field_of i.party.ipi_name) (party_number_of i.party.number) long (λ n e. party_filled i.party.number n e)) (interests t.records))
     (tt, tt)
 
 -- a work of the cut has a sender of eleven bytes
@@ -172,27 +143,22 @@ HasSender work = length work.sender ≡ 11
 
 sent_by : (o : Office) (b : Book) (key : TransmissionKey) → length key.sender ≡ 11 → AllByRecursion HasSender (versions_at_cut o b key)
 sent_by o b key long =
-    all_flat HasSender (λ (sent : NumberedTransmission). versions_of_transmission o b key sent.0 (transactions_of sent.1)) (λ _. Unit {0})
-    (λ sent _. all_mapped HasSender (λ (placed : ℕ × Transaction). cut_work key.sender placed.1) (λ _. Unit {0}) (λ _ _. long) (filter (λ (placed : ℕ × Transaction). is_version_at o b key sent.0 placed.0 (number_of_work placed.1)) (enumerate_from 0 (transactions_of sent.1)))
-    (all_of (λ (_ : ℕ × Transaction). Unit {0}) (λ _. tt) _))
-    (transmissions_to b key.sender key.number) (all_of (λ (_ : NumberedTransmission). Unit {0}) (λ _. tt) _)
+    all-flat_map HasSender (λ (sent : NumberedTransmission). versions_of_transmission o b key sent.0 (transactions_of sent.1)) (transmissions_to b key.sender key.number)
+    (all_of _ (λ (sent : NumberedTransmission). all-map HasSender (λ (placed : ℕ × Transaction). cut_work key.sender placed.1) (λ _. long) (filter (λ (placed : ℕ × Transaction). is_version_at o b key sent.0 placed.0 (number_of_work placed.1)) (enumerate_from 0 (transactions_of sent.1)))) (transmissions_to b key.sender key.number))
+
+pub eleven_long : (s : List ℕ) → is_sender_key s ≡ true → length s ≡ 11
+eleven_long s h = eqb-true (length s) 11 (first_holds (eqb (length s) 11) (list_all is_capital_or_digit s) h)
 
 sender_has_key : (b : Book) → IsSound b → (s : List ℕ) (n : ℕ) → is_in_line b s n ≡ true → length s ≡ 11
 sender_has_key b sound s n applied =
     let found = some_body (body_at b s n) (there_in_line b s n applied) in
     let entry = sound.transmissions s n found.0 found.1 in
-    let key : is_sender_key s ≡ true = first_holds (is_sender_key s) (is_transmission_number n) (first_holds (is_sender_key s && is_transmission_number n) (is_none (file_fault s found.0)) entry) in
-    eqb-true (length s) 11 (first_holds (eqb (length s) 11) (list_all is_capital_or_digit s) key)
-
-reached : (o : Office) (b : Book) → IsSound b → (key : TransmissionKey) → is_applied b key ≡ true → AllByRecursion HasSender (versions_at_cut o b key)
-reached o b sound key applied = sent_by o b key (sender_has_key b sound key.sender key.number applied)
+    eleven_long s (first_holds (is_sender_key s) (is_transmission_number n) (first_holds (is_sender_key s && is_transmission_number n) (is_none (file_fault s found.0)) entry))
 
 cut_sent : (o : Office) (b : Book) → IsSound b → (keys : List TransmissionKey) → list_all (is_applied b) keys ≡ true → AllByRecursion HasSender (flat_map (versions_at_cut o b) keys)
-cut_sent o b sound [] h = tt
-cut_sent o b sound (key ∷ keys) h =
-    all_append HasSender (versions_at_cut o b key) (flat_map (versions_at_cut o b) keys)
-    (reached o b sound key (first_holds (is_applied b key) (list_all (is_applied b) keys) h))
-    (cut_sent o b sound keys (second_holds (is_applied b key) (list_all (is_applied b) keys) h))
+cut_sent o b sound keys h =
+    all-flat_map HasSender (versions_at_cut o b) keys
+    (all_weaker (λ key. is_applied b key ≡ true) (λ key. AllByRecursion HasSender (versions_at_cut o b key)) (λ key applied. sent_by o b key (sender_has_key b sound key.sender key.number applied)) keys (all_from_test (is_applied b) keys h))
 
 -- the holders of a claim, where there are some
 abbrev OwnersFilled : Option (List Holder) → Type 0
@@ -207,11 +173,12 @@ sole_filled right o (w ∷ v ∷ more) all = tt
 claim_filled : (isrc : List ℕ) (holders : Option (List Holder)) (units : ℕ) → OwnersFilled holders → CreditsFilled (claim_credits_by isrc holders units)
 claim_filled isrc None units all = (tt, tt)
 claim_filled isrc (Some holders) units all =
-    all_mapped (λ (c : Credit). IsFilled c.account) (holder_credit isrc) (λ (held : Holder × ℕ). IsFilled held.0.account) (λ held h. h) (zip holders (split_of units (weights_in holders))) (zip_all (λ (h : Holder). IsFilled h.account) holders (split_of units (weights_in holders)) all)
+    all_map (λ (c : Credit). IsFilled c.account) (holder_credit isrc) (zip holders (split_of units (weights_in holders))) (zip_all (λ (h : Holder). IsFilled h.account) holders (split_of units (weights_in holders)) all)
 
 paid_filled : (claims : List Claim) (parts : List ℕ) → AllByRecursion (λ (claim : Claim). OwnersFilled claim.holders) claims → CreditsFilled (paid_credits claims parts)
 paid_filled claims parts all =
-    all_flat (λ (c : Credit). IsFilled c.account) (λ (paid : Claim × ℕ). claim_credits paid.0 paid.1) (λ (paid : Claim × ℕ). OwnersFilled paid.0.holders) (λ paid h. claim_filled paid.0.isrc paid.0.holders paid.1 h) (zip claims parts) (zip_all (λ (claim : Claim). OwnersFilled claim.holders) claims parts all)
+    all-flat_map (λ (c : Credit). IsFilled c.account) (λ (paid : Claim × ℕ). claim_credits paid.0 paid.1) (zip claims parts)
+    (all_weaker (λ (paid : Claim × ℕ). OwnersFilled paid.0.holders) _ (λ paid h. claim_filled paid.0.isrc paid.0.holders paid.1 h) (zip claims parts) (zip_all (λ (claim : Claim). OwnersFilled claim.holders) claims parts all))
 
 split_filled : (amount : ℕ) (claims : List Claim) → AllByRecursion (λ (claim : Claim). OwnersFilled claim.holders) claims → CreditsFilled (credits amount claims)
 unfolding credits
@@ -223,30 +190,22 @@ pub order_filled : (o : Office) (b : Book) → IsSound b → (pool : ℕ) (order
 unfolding credits_of
 order_filled o b sound pool order there =
     split_filled order.amount (claims_of o b order)
-    (all_mapped (λ (claim : Claim). OwnersFilled claim.holders) (claim_of o b order) (λ _. Unit {0})
-    (λ played _. sole_filled order.kind o (filter (names_recording played.0) (works_of_cut o b order)) (filter_all HasSender (names_recording played.0) (works_of_cut o b order) (cut_sent o b sound order.cut (order_reaches_cut b pool order sound there))))
-    (points_by_recording (rows_named b order)) (all_of (λ (_ : List ℕ × ℕ). Unit {0}) (λ _. tt) (points_by_recording (rows_named b order))))
+    (all-map (λ (claim : Claim). OwnersFilled claim.holders) (claim_of o b order)
+    (λ played. sole_filled order.kind o (filter (names_recording played.0) (works_of_cut o b order)) (all-filter HasSender (names_recording played.0) (works_of_cut o b order) (cut_sent o b sound order.cut (order_reaches_cut b pool order sound there))))
+    (points_by_recording (rows_named b order)))
 
 pools_filled : (o : Office) (b : Book) → IsSound b → (es : List (ℕ × Order)) → AllByRecursion (IsPool b) es → CreditsFilled (flat_map (credits_of o b) (map (λ e. e.1) es))
-pools_filled o b sound [] all = tt
-pools_filled o b sound (e ∷ es) all =
-    all_append (λ (c : Credit). IsFilled c.account) (credits_of o b e.1) (flat_map (credits_of o b) (map (λ x. x.1) es)) (order_filled o b sound e.0 e.1 all.0) (pools_filled o b sound es all.1)
-
-named_alike : (a : Account) → IsFilled a → (cs : List Credit) → CreditsFilled cs → AllByRecursion (λ (c : Credit). bytes_eq (account_text a) (account_text c.account) ≡ same_account c.account a) cs
-named_alike a filled [] all = tt
-named_alike a filled (c ∷ cs) all = (one_text a c.account filled all.0, named_alike a filled cs all.1)
+pools_filled o b sound es all =
+    all-flat_map (λ (c : Credit). IsFilled c.account) (credits_of o b) (map (λ e. e.1) es) (all_map (λ order. CreditsFilled (credits_of o b order)) (λ e. e.1) es (all_weaker (IsPool b) (λ e. CreditsFilled (credits_of o b e.1)) (λ e there. order_filled o b sound e.0 e.1 there) es all))
 
 -- the units under the text of an account are its balance
 pub units_by_text : (o : Office) (b : Book) → IsSound b → (a : Account) → IsFilled a → sum_by units_of (credits_to o b (account_text a)) ≡ balance o b a
 units_by_text o b sound a filled =
     ap (sum_by units_of)
     (filter_same (λ (c : Credit). bytes_eq (account_text a) (account_text c.account)) (λ (c : Credit). same_account c.account a) (all_credits o b)
-    (named_alike a filled (all_credits o b) (pools_filled o b sound (finite.entries b.pools) (each_pool b))))
+    (all_weaker (λ (c : Credit). IsFilled c.account) (λ (c : Credit). bytes_eq (account_text a) (account_text c.account) ≡ same_account c.account a) (λ c full. one_text a c.account filled full) (all_credits o b) (pools_filled o b sound (finite.entries b.pools) (each_pool b))))
 
 -- ---- what accounts say of the lengths of their parts
-
-pub eleven_long : (s : List ℕ) → is_sender_key s ≡ true → length s ≡ 11
-eleven_long s h = eqb-true (length s) 11 (first_holds (eqb (length s) 11) (list_all is_capital_or_digit s) h)
 
 pub nine_long : (n : List ℕ) → is_party_number n ≡ true → length n ≡ 9
 unfolding is_party_number

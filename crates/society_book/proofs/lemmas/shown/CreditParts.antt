@@ -1,8 +1,8 @@
 -- What the credits of a book are made of: recordings with an ISRC of twelve characters, and accounts that their texts read back.
-use Rattle.std.proofs.Common.{◌≡◌, ◌∙◌, ◌++◌, ◌&&◌, ◌||◌, ℕ, Bool, true, false, cond, List, [], ◌∷◌, length, take, drop, map, nat_le, Option, Some, None, Result, Ok, Err, refl, ap, ap₂, sym, subst, arith, bytes_eq, eqb, eqb-true, ne_eqb, suc, unwrap_or}
+use Rattle.std.proofs.Common.{◌≡◌, ◌∙◌, ◌++◌, ◌&&◌, ℕ, Bool, true, false, cond, List, [], ◌∷◌, length, take, drop, map, nat_le, Option, Some, None, Result, Ok, Err, refl, ap, ap₂, sym, subst, arith, bytes_eq, eqb, eqb-true, ne_eqb, suc, unwrap_or}
 use Rattle.std.specs.List.{AllByRecursion, list_all, list_any, zip}
 use Rattle.std.specs.Ordering.{eq_by_cmp}
-use Rattle.std.proofs.lemmas.Bool.{false≢true}
+use Rattle.std.proofs.lemmas.Bool.{or_left, or_right}
 use Rattle.std.proofs.lemmas.Cmp.{nat_list_cmp_total}
 use Rattle.std.proofs.lemmas.List.{drop_at, take_at}
 use Rattle.std.proofs.lemmas.Map.Text.{is_eq-slice_cmp}
@@ -25,7 +25,7 @@ use Rattle.society_core.specs.Points.{points_by_recording, points_in, recordings
 use Rattle.society_core.specs.Pools.{claim_of, claims_of, credits_of}
 use Rattle.society_core.specs.declared.return_key.ReturnKey.{ReturnKey}
 use Rattle.society_book.specs.Shown.{HasIsrc, IsFilled}
-use Rattle.society_book.proofs.lemmas.shown.AccountTexts.{all_flat, all_mapped, all_of}
+use Rattle.society_book.proofs.lemmas.shown.AccountTexts.{zip_all}
 use Rattle.work_ids.proofs.lemmas.Trailing.{filled_again}
 use Rattle.work_ids.specs.Account.{account_of, account_text, ipi_account_of, is_party, party_account_of}
 use Rattle.work_ids.specs.Blanks.{fill, is_blank_byte, without_trailing_blanks}
@@ -37,6 +37,9 @@ use Rattle.work_ids.specs.declared.account.Account.{Account}
 use Rattle.work_ids.specs.declared.account.Account.TheVariants.{Ipi, Party, Unclaimed}
 use Rattle.work_ids.specs.declared.fault.IdFault.{IdFault}
 use Rattle.work_ids.specs.declared.fault.IdFault.TheVariants.{Length, Character}
+use Rattle.sqlite_keyed.proofs.ListLemmas.{all-flat_map, all-map, all_map, all_of, all_weaker}
+use Rattle.society_book.proofs.lemmas.rows_alike.KeyRows.{let_through}
+use Rattle.sqlite_rules.proofs.ListLemmas.{all_has, some_has}
 
 -- ---- ISRCs
 
@@ -45,12 +48,7 @@ Twelve isrc = length isrc ≡ 12
 
 isrc_long : (bytes i : List ℕ) → isrc_of bytes ≡ Ok i → Twelve i
 unfolding isrc_of
-isrc_long bytes i e = by_length (eqb (length bytes) 12) refl (has_isrc_form bytes) e
-  where
-    by_length : (a : Bool) → eqb (length bytes) 12 ≡ a → (b : Bool) → (cond a (cond b (Ok bytes) (Err Character)) (Err Length)) ≡ Ok i → Twelve i
-    by_length true long true h = let same : bytes ≡ i = cc in ap length (sym same) ∙ eqb-true (length bytes) 12 long
-    by_length true long false h = absurd (let x = h in cc)
-    by_length false short b h = absurd (let x = h in cc)
+isrc_long bytes i e = let both = let_through (eqb (length bytes) 12) (has_isrc_form bytes) bytes i Character Length e in ap length (sym both.1) ∙ eqb-true (length bytes) 12 both.0
 
 text_long : (text i : List ℕ) → isrc_of_text text ≡ Ok i → Twelve i
 unfolding isrc_of_text
@@ -93,38 +91,27 @@ return_long body = rows_long (drop 1 (records_in body))
 
 named_long : (b : Book) (order : Order) → AllByRecursion RowTwelve (rows_named b order)
 named_long b order =
-    all_flat RowTwelve (λ (key : ReturnKey). performances_in (unwrap_or (return_at b key) [])) (λ _. Unit {0}) (λ key _. return_long (unwrap_or (return_at b key) [])) order.returns (all_of (λ (_ : ReturnKey). Unit {0}) (λ _. tt) order.returns)
-
-or_second : (a b : Bool) → b ≡ true → (a || b) ≡ true
-or_second true b h = refl
-or_second false b h = h
-
-or_first : (a b : Bool) → a ≡ true → (a || b) ≡ true
-or_first true b h = refl
-or_first false b h = absurd (false≢true h)
+    all-flat_map RowTwelve (λ (key : ReturnKey). performances_in (unwrap_or (return_at b key) [])) order.returns (all_of _ (λ (key : ReturnKey). return_long (unwrap_or (return_at b key) [])) order.returns)
 
 same_bytes : (q k : List ℕ) → eq_by_cmp bytes_cmp q k ≡ bytes_eq q k
 same_bytes q k = is_eq-slice_cmp q k
 
 listed : (ks : List (List ℕ)) → AllByRecursion Twelve ks → (q : List ℕ) → list_any (eq_by_cmp bytes_cmp q) ks ≡ true → Twelve q
-listed [] all q h = absurd (false≢true h)
-listed (k ∷ ks) all q h = by_case (eq_by_cmp bytes_cmp q k) refl h (listed ks all.1 q)
-  where
-    by_case : (t : Bool) → eq_by_cmp bytes_cmp q k ≡ t → (t || list_any (eq_by_cmp bytes_cmp q) ks) ≡ true → (list_any (eq_by_cmp bytes_cmp q) ks ≡ true → Twelve q) → Twelve q
-    by_case true is some later = ap length ((bytes_eq-Decides q k).0 (sym (same_bytes q k) ∙ is)) ∙ all.0
-    by_case false is some later = later some
+listed ks all q h =
+    let found = some_has (eq_by_cmp bytes_cmp q) ks h in
+    ap length ((bytes_eq-Decides q found.0).0 (sym (same_bytes q found.0) ∙ found.2)) ∙ all_has Twelve ks found.0 all found.1
 
 all_listed : (P : List ℕ → Type 0) (xs : List (List ℕ)) → ((q : List ℕ) → list_any (eq_by_cmp bytes_cmp q) xs ≡ true → P q) → AllByRecursion P xs
 all_listed P [] h = tt
 all_listed P (x ∷ xs) h = (
-  h x (or_first (eq_by_cmp bytes_cmp x x) (list_any (eq_by_cmp bytes_cmp x) xs) (same_bytes x x ∙ (bytes_eq-Decides x x).1 refl)),
-  all_listed P xs (λ q there. h q (or_second (eq_by_cmp bytes_cmp q x) (list_any (eq_by_cmp bytes_cmp q) xs) there)),
+  h x (or_left (eq_by_cmp bytes_cmp x x) (list_any (eq_by_cmp bytes_cmp x) xs) (same_bytes x x ∙ (bytes_eq-Decides x x).1 refl)),
+  all_listed P xs (λ q there. h q (or_right (eq_by_cmp bytes_cmp q x) (list_any (eq_by_cmp bytes_cmp q) xs) there)),
 )
 
 recordings_long : (rows : List Performance) → AllByRecursion RowTwelve rows → AllByRecursion Twelve (recordings_in rows)
 recordings_long rows all =
     all_listed Twelve (recordings_in rows)
-    (λ q there. listed (map (λ (row : Performance). row.isrc) rows) (all_mapped Twelve (λ (row : Performance). row.isrc) RowTwelve (λ row h. h) rows all) q
+    (λ q there. listed (map (λ (row : Performance). row.isrc) rows) (all_map Twelve (λ (row : Performance). row.isrc) rows all) q
     (sym (ascending_has nat_list_cmp_total q (map (λ (row : Performance). row.isrc) rows)) ∙ there))
 
 -- ---- the credits of a pool name recordings
@@ -132,53 +119,36 @@ recordings_long rows all =
 abbrev CreditsNamed : List Credit → Type 0
 CreditsNamed = AllByRecursion (λ (c : Credit). HasIsrc c.isrc)
 
-unit_all : {X : Type 0} (xs : List X) → AllByRecursion (λ _. Unit {0}) xs
-unit_all {X} xs = all_of (λ (_ : X). Unit {0}) (λ _. tt) xs
-
 claim_named : (isrc : List ℕ) (holders : Option (List Holder)) (units : ℕ) → Twelve isrc → CreditsNamed (claim_credits_by isrc holders units)
 claim_named isrc None units long = (long, tt)
-claim_named isrc (Some holders) units long = all_mapped (λ (c : Credit). HasIsrc c.isrc) (holder_credit isrc) (λ _. Unit {0}) (λ _ _. long) (zip holders (split_of units (weights_in holders))) (unit_all (zip holders (split_of units (weights_in holders))))
-
-zip_all : {X Y : Type 0} (P : X → Type 0) (xs : List X) (ys : List Y) → AllByRecursion P xs → AllByRecursion (λ (z : X × Y). P z.0) (zip xs ys)
-zip_all P [] ys all = tt
-zip_all P (x ∷ xs) [] all = tt
-zip_all P (x ∷ xs) (y ∷ ys) all = (all.0, zip_all P xs ys all.1)
+claim_named isrc (Some holders) units long = all-map (λ (c : Credit). HasIsrc c.isrc) (holder_credit isrc) (λ _. long) (zip holders (split_of units (weights_in holders)))
 
 split_named : (amount : ℕ) (claims : List Claim) → AllByRecursion (λ (claim : Claim). Twelve claim.isrc) claims → CreditsNamed (credits amount claims)
 unfolding credits
 split_named amount [] all = (tt, tt)
 split_named amount (claim ∷ claims) all =
-    all_flat (λ (c : Credit). HasIsrc c.isrc) (λ (paid : Claim × ℕ). claim_credits paid.0 paid.1) (λ (paid : Claim × ℕ). Twelve paid.0.isrc) (λ paid h. claim_named paid.0.isrc paid.0.holders paid.1 h)
-    (zip (claim ∷ claims) (split_of amount (points_claimed (claim ∷ claims)))) (zip_all (λ (c : Claim). Twelve c.isrc) (claim ∷ claims) (split_of amount (points_claimed (claim ∷ claims))) all)
+    let paid = zip (claim ∷ claims) (split_of amount (points_claimed (claim ∷ claims))) in
+    all-flat_map (λ (c : Credit). HasIsrc c.isrc) (λ (p : Claim × ℕ). claim_credits p.0 p.1) paid
+    (all_weaker (λ (p : Claim × ℕ). Twelve p.0.isrc) _ (λ p h. claim_named p.0.isrc p.0.holders p.1 h) paid (zip_all (λ (c : Claim). Twelve c.isrc) (claim ∷ claims) (split_of amount (points_claimed (claim ∷ claims))) all))
 
 pub order_named : (o : Office) (b : Book) (order : Order) → AllByRecursion (λ (c : Credit). HasIsrc c.isrc) (credits_of o b order)
 unfolding credits_of
 order_named o b order =
     split_named order.amount (claims_of o b order)
-    (all_mapped (λ (claim : Claim). Twelve claim.isrc) (claim_of o b order) (λ (played : List ℕ × ℕ). Twelve played.0) (λ played h. h) (points_by_recording (rows_named b order))
-    (all_mapped (λ (played : List ℕ × ℕ). Twelve played.0) (λ (isrc : List ℕ). (isrc, points_in (rows_named b order) isrc)) Twelve (λ isrc h. h) (recordings_in (rows_named b order)) (recordings_long (rows_named b order) (named_long b order))))
+    (all_map (λ (claim : Claim). Twelve claim.isrc) (claim_of o b order) (points_by_recording (rows_named b order))
+    (all_map (λ (played : List ℕ × ℕ). Twelve played.0) (λ (isrc : List ℕ). (isrc, points_in (rows_named b order) isrc)) (recordings_in (rows_named b order)) (recordings_long (rows_named b order) (named_long b order))))
 
 -- ---- an account that is read of its text
 
 party_back : (s m : List ℕ) → length s ≡ 11 → (c : Account) → party_account_of (s ++ m) ≡ Ok c → c ≡ Party s (fill 9 m)
 unfolding party_account_of
-party_back s m long c e = by_length (nat_le 12 (length (s ++ m)) && nat_le (length (s ++ m)) 20) (is_party (s ++ m)) e
-  where
-    by_length : (a b : Bool) → (cond a (cond b (Ok (Party (take 11 (s ++ m)) (fill 9 (drop 11 (s ++ m))))) (Err Character)) (Err Length)) ≡ Ok c → c ≡ Party s (fill 9 m)
-    by_length true true h =
-        let same : Party (take 11 (s ++ m)) (fill 9 (drop 11 (s ++ m))) ≡ c = cc in
-        sym same ∙ ap₂ (λ x y. Party x (fill 9 y)) (take_at s m 11 long) (drop_at s m 11 long)
-    by_length true false h = absurd (let x = h in cc)
-    by_length false b h = absurd (let x = h in cc)
+party_back s m long c e =
+    let account = Party (take 11 (s ++ m)) (fill 9 (drop 11 (s ++ m))) in
+    sym (let_through (nat_le 12 (length (s ++ m)) && nat_le (length (s ++ m)) 20) (is_party (s ++ m)) account c Character Length e).1 ∙ ap₂ (λ x y. Party x (fill 9 y)) (take_at s m 11 long) (drop_at s m 11 long)
 
 name_back : (digits : List ℕ) (c : Account) → ipi_account_of digits ≡ Ok c → c ≡ Ipi digits
 unfolding ipi_account_of
-name_back digits c e = by_length (eqb (length digits) 11) (is_ipi_name digits) e
-  where
-    by_length : (a b : Bool) → (cond a (cond b (Ok (Ipi digits)) (Err Character)) (Err Length)) ≡ Ok c → c ≡ Ipi digits
-    by_length true true h = let same : Ipi digits ≡ c = cc in sym same
-    by_length true false h = absurd (let x = h in cc)
-    by_length false b h = absurd (let x = h in cc)
+name_back digits c e = sym (let_through (eqb (length digits) 11) (is_ipi_name digits) (Ipi digits) c Character Length e).1
 
 one_or_more : (n : ℕ) → eqb (suc n) 0 ≡ false
 one_or_more n = ne_eqb (suc n) 0 (λ e. absurd (omega arith))

@@ -1,17 +1,14 @@
 -- What the rows of a pool and of its credits show.
-use Rattle.std.proofs.Common.{◌≡◌, ◌∙◌, ◌+◌, inl, inr, ℕ, pos, Bool, true, false, cond, List, [], ◌∷◌, Option, Some, None, Result, Ok, Err, IfOk, Vec, length, refl, ap, sym, subst, arith, map, filter, bytes_eq, option_map, IsPermutation, Less, is_some, unwrap_or}
+use Rattle.std.proofs.Common.{◌≡◌, ◌∙◌, inl, inr, ℕ, pos, Bool, true, false, cond, List, [], ◌∷◌, Option, Some, None, Result, Ok, Err, IfOk, Vec, length, refl, ap, sym, arith, map, bytes_eq, option_map, IsPermutation, Less, is_some, unwrap_or}
 use Rattle.std.specs.List.{AllByRecursion, enumerate_from}
 use Rattle.std.specs.declared.alloc.Global.{Global}
-use Rattle.std.proofs.lemmas.Bool.{false≢true}
-use Rattle.std.proofs.lemmas.Bool.Decides.{nat_tests}
-use Rattle.std.proofs.lemmas.List.Sorted.{IsPermutation-trans}
+use Rattle.std.proofs.lemmas.Bool.{eq-eqb, false_from_ne_true, false≢true}
 use Rattle.std.proofs.lemmas.Slice.Eq.{bytes_eq-Decides}
 use Rattle.pool_split.specs.declared.claim.Credit.{Credit}
 use Rattle.share_rules.specs.declared.office.Office.{Office}
 use Rattle.sqlite_schema.specs.Rules.{equal}
 use Rattle.sqlite_schema.specs.declared.schema.Table.{Table}
 use Rattle.sqlite_sql.specs.Query.{key_cmp}
-use Rattle.sqlite_trees.proofs.ListLemmas.{filter_same}
 use Rattle.sqlite_trees.specs.Tree.{IsAscending, Trees}
 use Rattle.sqlite_value.specs.Keys.{rising}
 use Rattle.sqlite_value.specs.Order.{Row, column}
@@ -31,36 +28,24 @@ use Rattle.society_book.specs.Kept.{HoldsBook}
 use Rattle.society_book.specs.Shown.{HasIsrc, IsFilled, IsSaid, ShowCredits, ShowPool, credit_by, credit_in, credit_isrc}
 use Rattle.society_book.proofs.lemmas.shown.AccountTexts.{order_filled}
 use Rattle.society_book.proofs.lemmas.shown.CreditParts.{account_back, order_named}
-use Rattle.society_book.proofs.lemmas.rows_alike.Equals.{numbers_equal}
-use Rattle.society_book.proofs.lemmas.rows_alike.KeyRows.{last_truth, numbers_either_way}
-use Rattle.society_book.proofs.lemmas.rows_alike.RowLemmas.{all_rows, none_else, only}
+use Rattle.society_book.proofs.lemmas.rows_alike.KeyRows.{last_truth, numbers_either_way, numbers_equal}
+use Rattle.society_book.proofs.lemmas.rows_alike.RowLemmas.{found_under, none_else, only}
 use Rattle.society_book.proofs.lemmas.rows_alike.SortedRows.{lines_back, lines_rise, one_order, rises_second}
 use Rattle.work_ids.specs.Account.{account_of, account_text}
 use Rattle.work_ids.specs.declared.account.Account.{Account}
 use Rattle.work_ids.specs.declared.fault.IdFault.{IdFault}
+use Rattle.sqlite_keyed.proofs.ListLemmas.{all-map, all_both}
 
 -- the first column is a whole number from 0
 abbrev pub HasNumber : Row → Type 0
 HasNumber row = column row 0 ≡ Int (pos (whole_number_at 0 row))
 
-module _ (n : ℕ) where
-  keyed_rows : (rows : List Row) → AllByRecursion HasNumber rows → AllByRecursion (λ row. has_key (Int (pos n) ∷ []) row ≡ is_of_pool 0 n row) rows
-  keyed_rows [] all = tt
-  keyed_rows (row ∷ rows) all = (
-    last_truth (equal Binary (column row 0) (Int (pos n))) ∙ ap (λ v. equal Binary v (Int (pos n))) all.0 ∙ numbers_equal (whole_number_at 0 row) n ∙ numbers_either_way (whole_number_at 0 row) n,
-    keyed_rows rows all.1,
-  )
-
-  own : (row : Row) → is_of_pool 0 (whole_number_at 0 row) row ≡ true
-  own row = grind (arith, nat_tests)
-
-  -- the rows that SQL finds under a number are those that the number is to have
-  pub found_by_number : (table : Table) (expected : ℕ → List Row) (width : ℕ) (db : Trees) (found : List Row) → HasRows (is_of_pool 0) expected (rows_in table db) → ((q : ℕ) → AllByRecursion HasNumber (expected q)) → Lists table (has_key (Int (pos n) ∷ [])) width db found → IsPermutation (expected n) found
-  found_by_number table expected width db found has numbered lists =
-      let rows = rows_in table db in
-      let forms = all_rows (is_of_pool 0) (whole_number_at 0) own HasNumber expected rows has numbered in
-      let same : filter (has_key (Int (pos n) ∷ [])) rows ≡ filter (is_of_pool 0 n) rows = filter_same (has_key (Int (pos n) ∷ [])) (is_of_pool 0 n) rows (keyed_rows rows forms) in
-      IsPermutation-trans (expected n) (filter (is_of_pool 0 n) rows) found (has n) (subst (λ l. IsPermutation l found) same lists.rows)
+-- the rows that SQL finds under a number are those that the number is to have
+pub found_by_number : (n : ℕ) (table : Table) (expected : ℕ → List Row) (width : ℕ) (db : Trees) (found : List Row) → HasRows (is_of_pool 0) expected (rows_in table db) → ((q : ℕ) → AllByRecursion HasNumber (expected q)) → Lists table (has_key (Int (pos n) ∷ [])) width db found → IsPermutation (expected n) found
+found_by_number n table expected width db found has numbered lists =
+    found_under HasNumber (is_of_pool 0) (whole_number_at 0) (λ row. eq-eqb (whole_number_at 0 row) (whole_number_at 0 row) refl) n (has_key (Int (pos n) ∷ []))
+    (λ row is. last_truth (equal Binary (column row 0) (Int (pos n))) ∙ ap (λ v. equal Binary v (Int (pos n))) is ∙ numbers_equal (whole_number_at 0 row) n ∙ numbers_either_way (whole_number_at 0 row) n)
+    table expected width db found has numbered lists
 
 pools_numbered : (q : ℕ) (o : Option Order) → AllByRecursion HasNumber (row_of_some (pool_row q) o)
 pools_numbered q None = tt
@@ -75,21 +60,13 @@ pool_found o b db holds n found lists =
     shows None e = inl (e, refl)
     shows (Some order) e = inr (n, order, e, refl)
 
-lines_numbered : (q p : ℕ) (cs : List Credit) → AllByRecursion HasNumber (map (λ line. credit_row q line.0 line.1) (enumerate_from p cs))
-lines_numbered q p [] = tt
-lines_numbered q p (c ∷ cs) = (refl, lines_numbered q (p + 1) cs)
-
 credits_numbered : (o : Office) (b : Book) (q : ℕ) (x : Option Order) → AllByRecursion HasNumber (credit_rows_by o b q x)
 credits_numbered o b q None = tt
-credits_numbered o b q (Some order) = lines_numbered q 0 (credits_of o b order)
+credits_numbered o b q (Some order) = all-map HasNumber (λ (line : ℕ × Credit). credit_row q line.0 line.1) (λ line. refl) (enumerate_from 0 (credits_of o b order))
 
 credits_rise : (q p : ℕ) (cs : List Credit) → IsAscending (λ a b. key_cmp 0 (rising 2 []) a b ≡ Less) (map (λ line. credit_row q line.0 line.1) (enumerate_from p cs))
 credits_rise q p cs =
     lines_rise (credit_row q) (λ a b. key_cmp 0 (rising 2 []) a b ≡ Less) (λ k l x y less. rises_second (credit_row q k x) (credit_row q l y) k l refl refl refl less) p cs
-
-all_said : (cs : List Credit) → AllByRecursion (λ (c : Credit). HasIsrc c.isrc) cs → AllByRecursion (λ (c : Credit). IsFilled c.account) cs → AllByRecursion IsSaid cs
-all_said [] named filled = tt
-all_said (c ∷ cs) named filled = ((named.0, filled.0), all_said cs named.1 filled.1)
 
 -- the credits of an order, none where there is none
 abbrev pub credits_or_none : Office → Book → Option Order → List Credit
@@ -106,17 +83,13 @@ credits_found o b db holds n found lists =
     shows (Some order) is these = (
       n,
       one_order 2 (map (λ line. credit_row n line.0 line.1) (enumerate_from 0 (credits_of o b order))) found (credits_rise n 0 (credits_of o b order)) these lists.sorted,
-      all_said (credits_of o b order) (order_named o b order) (order_filled o b holds.sound n order is),
+      all_both (λ (c : Credit). HasIsrc c.isrc) (λ (c : Credit). IsFilled c.account) IsSaid (λ c named full. (named, full)) (credits_of o b order) (order_named o b order) (order_filled o b holds.sound n order is),
     )
 
 -- ---- a credit that is read of its row
 
 dash_short : (isrc : List ℕ) → length isrc ≡ 12 → bytes_eq isrc (45 ∷ []) ≡ false
-dash_short isrc long = by_case (bytes_eq isrc (45 ∷ [])) refl
-  where
-    by_case : (b : Bool) → bytes_eq isrc (45 ∷ []) ≡ b → b ≡ false
-    by_case false e = refl
-    by_case true e = absurd (let short = ap length ((bytes_eq-Decides isrc (45 ∷ [])).0 e) in omega (arith, short, long))
+dash_short isrc long = false_from_ne_true (bytes_eq isrc (45 ∷ [])) (λ e. absurd (let short = ap length ((bytes_eq-Decides isrc (45 ∷ [])).0 e) in omega (arith, short, long)))
 
 isrc_back : (isrc : Option (List ℕ)) → HasIsrc isrc → credit_isrc (unwrap_or isrc (45 ∷ [])) ≡ isrc
 isrc_back None named = refl

@@ -1,31 +1,26 @@
 -- What the row of a sender's front shows.
-use Rattle.std.proofs.Common.{◌≡◌, ◌∙◌, inl, inr, ℕ, pos, Bool, true, false, cond, List, [], ◌∷◌, Option, Some, None, filter, map, nat_le, refl, ap, sym}
+use Rattle.std.proofs.Common.{◌≡◌, ◌∙◌, inl, inr, ℕ, pos, Bool, true, false, cond, List, [], ◌∷◌, Option, Some, None, refl, sym}
 use Rattle.std.specs.List.{AllByRecursion}
 use Rattle.share_rules.specs.declared.office.Office.{Office}
 use Rattle.sqlite_trees.specs.Tree.{Trees}
 use Rattle.sqlite_value.specs.declared.value.Value.TheVariants.{Int, Text}
 use Rattle.sqlite_value.specs.Order.{Row}
-use Rattle.society_core.specs.Book.{Book, ends_of, front, line, sent_under}
+use Rattle.society_core.specs.Book.{Book, ends_of, front}
 use Rattle.society_core.proofs.lemmas.Fronts.{front_only}
-use Rattle.sender_segments.specs.Ways.{AreRight, End, numbers_up_to}
-use Rattle.society_core.proofs.lemmas.LineNumbers.{line_is}
+use Rattle.sender_segments.specs.Ways.{AreRight, End}
 use Rattle.society_book.proofs.lemmas.lines.KnownSenders.{nothing_sent, nothing_stated}
 use Rattle.society_rows.specs.Layout as layout
 use Rattle.society_rows.specs.Reads.{Lists, has_key}
 use Rattle.society_book.specs.DerivedRows.{front_rows, knows_sender, works_to}
 use Rattle.society_book.specs.Kept.{HoldsBook}
 use Rattle.society_book.specs.Shown.{ShowFront}
-use Rattle.society_book.specs.Steps.{ShowReached}
 use Rattle.society_book.proofs.lemmas.rows_alike.NamedRows.{HasName, found_by_name, one_or_none}
-use Rattle.works_core.specs.Line.{line_of}
-use Rattle.works_core.specs.Verdicts.{works_in}
-use Rattle.works_core.specs.Versions.{judged_of, placed_line}
 
 none_some : (x : End) → ◌≡◌ {A = Option End} None (Some x) → ⊥
 none_some x e = cc
 
 -- no end of a sender of whom a book has nothing is wrong
-nobody_right : (b : Book) (s : List ℕ) → knows_sender b s ≡ false → AreRight (ends_of b s)
+pub nobody_right : (b : Book) (s : List ℕ) → knows_sender b s ≡ false → AreRight (ends_of b s)
 nobody_right b s h = record { within = λ g end is. absurd (none_some end (sym (nothing_stated b s h g) ∙ is)); later = λ g end is. absurd (none_some end (sym (nothing_stated b s h g) ∙ is)) }
 
 -- a sender of whom a book has nothing has the front 0
@@ -45,20 +40,3 @@ front_found o b db holds s found lists =
     shows : (x : Bool) → knows_sender b s ≡ x → found ≡ cond x ((Text s ∷ Int (pos (front b s)) ∷ Int (pos (works_to o b s)) ∷ []) ∷ []) [] → ShowFront (front b s) found
     shows true is e = inr (s, pos (works_to o b s), e)
     shows false is e = inl (e, front_of_nobody b s is)
-
--- nor has it a line
-line_of_nobody : (b : Book) (s : List ℕ) → knows_sender b s ≡ false → line b s ≡ []
-line_of_nobody b s h = line_is b s (nobody_right b s h) ∙ ap (numbers_up_to (ends_of b s)) (front_of_nobody b s h)
-
--- nor has it works
-works_of_nobody : (o : Office) (b : Book) (s : List ℕ) → knows_sender b s ≡ false → works_to o b s ≡ 0
-works_of_nobody o b s h = ap (λ (ns : List ℕ). works_in (judged_of (placed_line (line_of o (map (sent_under b s) (filter (λ m. nat_le m (front b s)) ns)))))) (line_of_nobody b s h)
-
--- what is found of a sender's front shows how far it came
-pub reached_found : (o : Office) (b : Book) (db : Trees) → HoldsBook o b db → (s : List ℕ) (found : List Row) → Lists layout.fronts (has_key (Text s ∷ [])) 1 db found → ShowReached (front b s) (works_to o b s) found
-reached_found o b db holds s found lists =
-    shows (knows_sender b s) refl (one_or_none (knows_sender b s) (Text s ∷ Int (pos (front b s)) ∷ Int (pos (works_to o b s)) ∷ []) found (found_by_name layout.fronts (front_rows o b) 1 db found s holds.derived.fronts (fronts_named o b) lists))
-  where
-    shows : (x : Bool) → knows_sender b s ≡ x → found ≡ cond x ((Text s ∷ Int (pos (front b s)) ∷ Int (pos (works_to o b s)) ∷ []) ∷ []) [] → ShowReached (front b s) (works_to o b s) found
-    shows true is e = inr (s, e)
-    shows false is e = inl (e, front_of_nobody b s is, works_of_nobody o b s is)

@@ -1,10 +1,10 @@
 -- Which numbers of a sender are held: those above its front, and those that its line skips.
-use Rattle.std.proofs.Common.{◌≡◌, ◌∙◌, ◌<◌, ◌≤◌, ◌+◌, ◌==◌, ◌&&◌, ◌||◌, ◌++◌, ℕ, Bool, true, false, List, [], ◌∷◌, Option, Some, None, flat_map, nat_le, nat_lt, not, refl, ap, ap₂, sym, arith, ⊎_elim}
+use Rattle.std.proofs.Common.{◌≡◌, ◌∙◌, ◌<◌, ◌≤◌, ◌+◌, ◌&&◌, ◌||◌, ◌++◌, ℕ, Bool, true, false, List, [], ◌∷◌, Option, Some, None, flat_map, nat_le, nat_lt, not, refl, ap, ap₂, sym, arith, ⊎_elim}
 use Rattle.std.specs.List.{AllByRecursion}
 use Rattle.std.specs.List.Sorted.{IsStrictlySortedBy}
 use Rattle.std.specs.Ordering.{nat_cmp}
 use Rattle.std.specs.declared.cmp.Ordering.TheVariants.{Less}
-use Rattle.std.proofs.lemmas.Bool.{cases_lt, false≢true}
+use Rattle.std.proofs.lemmas.Bool.{and_parts, and_right, cases_lt, le-leb, le-ltb, lt-leb, lt-ltb, ltb-true, ne_eqb, or_from, or_right}
 use Rattle.std.proofs.lemmas.Bool.Decides.{Decides-eqb, nat_tests}
 use Rattle.std.proofs.lemmas.List.Kept.{IsStrictlySortedBy-filter}
 use Rattle.sqlite_keyed.proofs.ListLemmas.{all-append, all_weaker, filter_same}
@@ -14,41 +14,22 @@ use Rattle.sender_segments.proofs.lemmas.Ranks.{IsMade, number_is}
 use Rattle.society_core.specs.Book.{AreOrderly, Book, IsSound, ends_of, front, held, is_in_line, is_one_of, is_there, numbers_of}
 use Rattle.society_core.specs.Ends.{is_past, last_number_of, number_past}
 use Rattle.society_core.proofs.lemmas.Books.{sound_order}
-use Rattle.society_core.proofs.lemmas.Fronts.{front_led, has_sequence}
+use Rattle.society_core.proofs.lemmas.Fronts.{front_led, has_sequence, first_holds}
 use Rattle.society_core.proofs.lemmas.HeldLemmas.{held_ascend, held_waits}
 use Rattle.society_core.proofs.lemmas.KeptFronts.{kept_front_fits}
 use Rattle.society_core.proofs.lemmas.LineNumbers.{each_of, in_line_is, one_of_either, one_that_passes, sorted_same}
 use Rattle.society_core.proofs.lemmas.NumbersThere.{numbers_ascend, there_of_numbers}
 use Rattle.society_book.specs.Standing.{AreSkipped, ListsSkipped, SkipsRise, is_skipped, is_strictly_between, numbers_above, numbers_within}
 use Rattle.society_book.specs.declared.skips.Skip.{Skip}
-use Rattle.society_book.proofs.lemmas.shown.Skips.{order, past_fails, within_fails}
+use Rattle.society_book.proofs.lemmas.shown.Skips.{last_false, order, past_fails, within_fails}
 use Rattle.work_ids.specs.Segments.{base_of, most_in, segment_of, sequence_of}
+use Rattle.society_book.proofs.lemmas.rows_alike.KeyRows.{last_truth}
 
 less_holds : (a b : ℕ) → a < b → nat_cmp a b ≡ Less
 less_holds a b h = grind (arith, nat_tests, h)
 
-le_holds : (a b : ℕ) → a ≤ b → nat_le a b ≡ true
-le_holds a b h = grind (arith, nat_tests, h)
-
-le_fails : (a b : ℕ) → b < a → nat_le a b ≡ false
-le_fails a b h = grind (arith, nat_tests, h)
-
-lt_holds : (a b : ℕ) → a < b → nat_lt a b ≡ true
-lt_holds a b h = grind (arith, nat_tests, h)
-
-lt_fails : (a b : ℕ) → b ≤ a → nat_lt a b ≡ false
-lt_fails a b h = grind (arith, nat_tests, h)
-
-lt_says : (a b : ℕ) → nat_lt a b ≡ true → a < b
-lt_says a b h = grind (arith, nat_tests)
-
 within_says : (above below n : ℕ) → is_strictly_between above below n ≡ true → (above < n) × (n < below)
-within_says above below n h = by_both (nat_lt above n) refl (nat_lt n below) refl h
-  where
-    by_both : (x : Bool) → nat_lt above n ≡ x → (y : Bool) → nat_lt n below ≡ y → (x && y) ≡ true → (above < n) × (n < below)
-    by_both true low true high is = (lt_says above n low, lt_says n below high)
-    by_both true low false high is = absurd (false≢true is)
-    by_both false low y high is = absurd (false≢true is)
+within_says above below n h = let both = and_parts (nat_lt above n) (nat_lt n below) h in (ltb-true above n both.0, ltb-true n below both.1)
 
 -- numbers up to one and then numbers above it, both sorted, are sorted
 sorted_join : (mid : ℕ) (xs ys : List ℕ) → IsStrictlySortedBy nat_cmp xs → IsStrictlySortedBy nat_cmp ys → AllByRecursion (λ n. n ≤ mid) xs → AllByRecursion (λ n. mid < n) ys → IsStrictlySortedBy nat_cmp (xs ++ ys)
@@ -64,11 +45,6 @@ none_sorted : IsStrictlySortedBy nat_cmp []
 unfolding IsStrictlySortedBy
 none_sorted = tt
 
--- the first of two tests that hold
-of_both : (x y : Bool) → (x && y) ≡ true → x ≡ true
-of_both true y h = refl
-of_both false y h = absurd (false≢true h)
-
 -- what is skipped is in order
 record IsBetween (low high n : ℕ) : Type 0 where
   above : low < n
@@ -81,12 +57,12 @@ module _ (b : Book) (s : List ℕ) where
   all_within : (above below : ℕ) → AllByRecursion (λ n. is_strictly_between above below n ≡ true) (numbers_within b s above below)
   all_within above below =
       each_of (λ n. is_strictly_between above below n ≡ true) (numbers_within b s above below)
-      (λ n one. of_both (is_strictly_between above below n) (is_one_of (numbers_of b s) n) (sym (one_that_passes (is_strictly_between above below) n (numbers_of b s)) ∙ one))
+      (λ n one. first_holds (is_strictly_between above below n) (is_one_of (numbers_of b s) n) (sym (one_that_passes (is_strictly_between above below) n (numbers_of b s)) ∙ one))
 
   all_above : (above : ℕ) → AllByRecursion (λ n. above < n) (numbers_above b s above)
   all_above above =
       each_of (λ n. above < n) (numbers_above b s above)
-      (λ n one. lt_says above n (of_both (nat_lt above n) (is_one_of (numbers_of b s) n) (sym (one_that_passes (nat_lt above) n (numbers_of b s)) ∙ one)))
+      (λ n one. ltb-true above n (first_holds (nat_lt above n) (is_one_of (numbers_of b s) n) (sym (one_that_passes (nat_lt above) n (numbers_of b s)) ∙ one)))
 
   skips_bound : (low high : ℕ) (skips : List Skip) → SkipsRise low skips high → AllByRecursion (IsBetween low high) (skipped skips)
   skips_bound low high [] rise = tt
@@ -137,7 +113,7 @@ module _ (b : Book) (s : List ℕ) where
 
     within_end : (o : Option End) (k : ℕ) → ((end : End) → o ≡ Some end → k ≤ end.last) → is_up_to_end o k ≡ true
     within_end None k h = refl
-    within_end (Some end) k h = le_holds k end.last (h end refl)
+    within_end (Some end) k h = le-leb k end.last (h end refl)
 
     in_line : (n : ℕ) → is_in_line b s n ≡ (nat_le 1 (sequence_of n) && (nat_le n f && (leads_to (ends_of b s) n && is_up_to_end (ends_of b s (segment_of n)) (sequence_of n))))
     in_line n = in_line_is b s n ∙ up_to_front (ends_of b s) orderly.right f n (front_led b.transmissions b.ends s) (kept_front_fits b.transmissions b.ends s orderly)
@@ -147,33 +123,17 @@ module _ (b : Book) (s : List ℕ) where
     waits n there =
         ⊎_elim
         (λ (above : f < n).
-        ap (λ x. is_skipped skips n || x) (lt_holds f n above) ∙ or_true (is_skipped skips n)
-        ∙ sym (ap not (in_line n ∙ ap (λ x. nat_le 1 (sequence_of n) && (x && (leads_to (ends_of b s) n && is_up_to_end (ends_of b s (segment_of n)) (sequence_of n)))) (le_fails n f above) ∙ and_false (nat_le 1 (sequence_of n)))))
+        ap (λ x. is_skipped skips n || x) (lt-ltb f n above) ∙ or_right (is_skipped skips n) true refl
+        ∙ sym (ap not (in_line n ∙ ap (λ x. nat_le 1 (sequence_of n) && (x && (leads_to (ends_of b s) n && is_up_to_end (ends_of b s (segment_of n)) (sequence_of n)))) (lt-leb n f above) ∙ and_right (nat_le 1 (sequence_of n)) false refl)))
         (λ (up : n ≤ f).
         let some = has_sequence b.transmissions b.ends s orderly n there in
-        ap₂ (λ x y. x || y) (are.skipped n some up) (lt_fails f n up) ∙ or_false (not (leads_to (ends_of b s) n))
+        ap₂ (λ x y. x || y) (are.skipped n some up) (le-ltb f n up) ∙ last_false (not (leads_to (ends_of b s) n))
         ∙ sym (ap not (in_line n
-        ∙ ap (λ x. x && (nat_le n f && (leads_to (ends_of b s) n && is_up_to_end (ends_of b s (segment_of n)) (sequence_of n)))) (le_holds 1 (sequence_of n) some)
-        ∙ ap (λ x. x && (leads_to (ends_of b s) n && is_up_to_end (ends_of b s (segment_of n)) (sequence_of n))) (le_holds n f up)
+        ∙ ap (λ x. x && (nat_le n f && (leads_to (ends_of b s) n && is_up_to_end (ends_of b s (segment_of n)) (sequence_of n)))) (le-leb 1 (sequence_of n) some)
+        ∙ ap (λ x. x && (leads_to (ends_of b s) n && is_up_to_end (ends_of b s (segment_of n)) (sequence_of n))) (le-leb n f up)
         ∙ ap (λ x. leads_to (ends_of b s) n && x) (within_end (ends_of b s (segment_of n)) (sequence_of n) (orderly.within n there))
-        ∙ and_true (leads_to (ends_of b s) n))))
+        ∙ last_truth (leads_to (ends_of b s) n))))
         (cases_lt f n)
-      where
-        or_true : (x : Bool) → (x || true) ≡ true
-        or_true true = refl
-        or_true false = refl
-
-        or_false : (x : Bool) → (x || false) ≡ x
-        or_false true = refl
-        or_false false = refl
-
-        and_false : (x : Bool) → (x && false) ≡ false
-        and_false true = refl
-        and_false false = refl
-
-        and_true : (x : Bool) → (x && true) ≡ x
-        and_true true = refl
-        and_true false = refl
 
     same : (n : ℕ) → is_one_of (skipped skips ++ numbers_above b s f) n ≡ is_one_of (held b s) n
     same n =
@@ -185,33 +145,13 @@ module _ (b : Book) (s : List ℕ) where
         by_there : (t : Bool) → is_there b s n ≡ t → ((is_skipped skips n && is_there b s n) || (nat_lt f n && is_there b s n)) ≡ (not (is_in_line b s n) && is_there b s n)
         by_there true there =
             ap (λ t. (is_skipped skips n && t) || (nat_lt f n && t)) there
-            ∙ drop (is_skipped skips n) (nat_lt f n)
+            ∙ ap₂ (λ x y. x || y) (last_truth (is_skipped skips n)) (last_truth (nat_lt f n))
             ∙ waits n there
-            ∙ keep (not (is_in_line b s n))
-            ∙ sym (ap (λ t. not (is_in_line b s n) && t) there)
-          where
-            drop : (x y : Bool) → ((x && true) || (y && true)) ≡ (x || y)
-            drop true y = refl
-            drop false true = refl
-            drop false false = refl
-
-            keep : (x : Bool) → x ≡ (x && true)
-            keep true = refl
-            keep false = refl
+            ∙ sym (ap (λ t. not (is_in_line b s n) && t) there ∙ last_truth (not (is_in_line b s n)))
         by_there false gone =
             ap (λ t. (is_skipped skips n && t) || (nat_lt f n && t)) gone
-            ∙ none (is_skipped skips n) (nat_lt f n) (not (is_in_line b s n))
-            ∙ sym (ap (λ t. not (is_in_line b s n) && t) gone)
-          where
-            none : (x y z : Bool) → ((x && false) || (y && false)) ≡ (z && false)
-            none true true true = refl
-            none true true false = refl
-            none true false true = refl
-            none true false false = refl
-            none false true true = refl
-            none false true false = refl
-            none false false true = refl
-            none false false false = refl
+            ∙ or_from (is_skipped skips n && false) (nat_lt f n && false) (and_right (is_skipped skips n) false refl) (and_right (nat_lt f n) false refl)
+            ∙ sym (ap (λ t. not (is_in_line b s n) && t) gone ∙ and_right (not (is_in_line b s n)) false refl)
 
     pub held_are : skipped skips ++ numbers_above b s f ≡ held b s
     held_are =
@@ -229,26 +169,19 @@ held_is b s sound list lists = ap (λ (ns : List ℕ). ns ++ numbers_above b s (
 lt_moved : (a k n m : ℕ) → n ≡ a + m → nat_lt (a + k) n ≡ nat_lt k m
 lt_moved a k n m h = grind (arith, nat_tests, h)
 
-other_segment : (g h : ℕ) → (h ≡ g → ⊥) → (h == g) ≡ false
-other_segment g h apart = by_case (h == g) refl
-  where
-    by_case : (c : Bool) → (h == g) ≡ c → c ≡ false
-    by_case false is = refl
-    by_case true is = absurd (apart ((Decides-eqb h g).0 is))
-
 -- they are those above its rank and below the rank behind the segment
 past_is_within : (g last n : ℕ) → is_past g last n ≡ is_strictly_between (base_of g + last) ((base_of g + most_in g) + 1) n
 past_is_within g last n =
     ⊎_elim
     (λ (former : segment_of n < g).
     let far = order (segment_of n) g former in
-    ap (λ x. x && nat_lt last (sequence_of n)) (other_segment g (segment_of n) (λ e. omega (arith, e, former)))
+    ap (λ x. x && nat_lt last (sequence_of n)) (ne_eqb (segment_of n) g (λ e. omega (arith, e, former)))
     ∙ sym (within_fails (base_of g + last) ((base_of g + most_in g) + 1) n (omega (arith, made.is, made.within, far))))
     (λ (up : g ≤ segment_of n).
     ⊎_elim
     (λ (later : g < segment_of n).
     let far = order g (segment_of n) later in
-    ap (λ x. x && nat_lt last (sequence_of n)) (other_segment g (segment_of n) (λ e. omega (arith, e, later)))
+    ap (λ x. x && nat_lt last (sequence_of n)) (ne_eqb (segment_of n) g (λ e. omega (arith, e, later)))
     ∙ sym (past_fails (base_of g + last) ((base_of g + most_in g) + 1) n (omega (arith, made.is, far))))
     (λ (near : segment_of n ≤ g). own (omega (arith, up, near)))
     (cases_lt g (segment_of n)))
@@ -265,12 +198,8 @@ past_is_within g last n =
         let below : n < (base_of g + most_in g) + 1 = omega (arith, made.is, made.within, base, most) in
         ap (λ x. x && nat_lt last (sequence_of n)) ((Decides-eqb (segment_of n) g).1 same)
         ∙ sym (lt_moved (base_of g) last n (sequence_of n) at)
-        ∙ keep (nat_lt (base_of g + last) n)
-        ∙ ap (λ x. nat_lt (base_of g + last) n && x) (sym (lt_holds n ((base_of g + most_in g) + 1) below))
-      where
-        keep : (x : Bool) → x ≡ (x && true)
-        keep true = refl
-        keep false = refl
+        ∙ sym (last_truth (nat_lt (base_of g + last) n))
+        ∙ ap (λ x. nat_lt (base_of g + last) n && x) (sym (lt-ltb n ((base_of g + most_in g) + 1) below))
 
 -- so the greatest of them is the last of these
 pub past_found : (b : Book) (s : List ℕ) (g last : ℕ) → last_number_of (numbers_within b s (base_of g + last) ((base_of g + most_in g) + 1)) ≡ number_past b s g last

@@ -3,12 +3,12 @@ use Rattle.std.proofs.Common.{◌≡◌, ◌∙◌, ◌+◌, ◌<◌, ◌≤◌,
 use Rattle.std.specs.List.{AllByRecursion, list_any}
 use Rattle.std.specs.List.Sorted.{IsStrictlySortedBy}
 use Rattle.std.specs.Ordering.{eq_by_cmp, nat_cmp, ordering_then}
-use Rattle.std.proofs.lemmas.Bool.{cases_lt, false≢true}
+use Rattle.std.proofs.lemmas.Bool.{and_from, and_parts, and_right, cases_lt, eq-eqb, false≢true}
 use Rattle.std.proofs.lemmas.Bool.Decides.{nat_tests}
 use Rattle.std.proofs.lemmas.Cmp.{nat_cmp_total}
 use Rattle.std.proofs.lemmas.List.Sorted.{length_permutation, list_any-IsPermutation}
 use Rattle.std.proofs.lemmas.Slice.Eq.{bytes_eq-Decides}
-use Rattle.sqlite_keyed.proofs.ListLemmas.{IsPermutation-filter}
+use Rattle.sqlite_keyed.proofs.ListLemmas.{IsPermutation-filter, all-filter, all_both, all_weaker}
 use Rattle.sqlite_schema.specs.Rules.{equal}
 use Rattle.sqlite_sql.specs.Ops.{binary}
 use Rattle.sqlite_sql.specs.Query.{key_cmp}
@@ -36,10 +36,12 @@ use Rattle.society_book.specs.BookRows.{is_transmission_row, row_of_some, transm
 use Rattle.society_book.specs.Columns.{whole_number_at, text_at}
 use Rattle.society_book.specs.Sources.{HasTransmissions}
 use Rattle.society_book.specs.Standing.{is_strictly_between, numbers_above, numbers_within}
-use Rattle.society_book.proofs.lemmas.rows_alike.Equals.{texts_equal, truth_of}
+use Rattle.society_rows.proofs.lemmas.readings.KeyEquality.{text_equal}
+use Rattle.society_rows.proofs.lemmas.changes.Rowids.{truth_of}
 use Rattle.society_book.proofs.lemmas.rows_alike.KeyRows.{HasKeyForm, both_same, either_way, transmissions_formed}
-use Rattle.society_book.proofs.lemmas.rows_alike.RowLemmas.{all_rows, only}
-use Rattle.society_book.proofs.lemmas.rows_alike.SortedRows.{is_numbered, led, same_numbers}
+use Rattle.society_book.proofs.lemmas.rows_alike.RowLemmas.{all_rows, any_same, filter_both, only}
+use Rattle.society_book.proofs.lemmas.rows_alike.SortedRows.{is_numbered, led}
+use Rattle.society_book.proofs.lemmas.rows_alike.BookLemmas.{filter_true}
 
 above_test : (m n : ℕ) → exceeds (Int (pos m)) (Int (pos n)) ≡ nat_lt n m
 unfolding binary
@@ -52,7 +54,7 @@ above_test m n = truth_of (is_gt (value_cmp (Int (pos m)) (Int (pos n)))) ∙ ap
 above_so : (s : List ℕ) (f : ℕ) (row : Row) → HasKeyForm row → is_above (Text s) (Int (pos f)) row ≡ (bytes_eq s (text_at 0 row) && nat_lt f (whole_number_at 1 row))
 above_so s f row form =
     ap₂ (λ x y. x && y)
-    (ap (λ v. equal Binary v (Text s)) form.0 ∙ texts_equal (text_at 0 row) s ∙ either_way (text_at 0 row) s)
+    (ap (λ v. equal Binary v (Text s)) form.0 ∙ text_equal (text_at 0 row) s ∙ either_way (text_at 0 row) s)
     (ap (λ v. exceeds v (Int (pos f))) form.1 ∙ above_test (whole_number_at 1 row) f)
 
 below_test : (m n : ℕ) → precedes (Int (pos m)) (Int (pos n)) ≡ nat_lt m n
@@ -66,7 +68,7 @@ below_test m n = truth_of (is_lt (value_cmp (Int (pos m)) (Int (pos n)))) ∙ ap
 within_so : (s : List ℕ) (f t : ℕ) (row : Row) → HasKeyForm row → is_above_and_below (Text s) (Int (pos f)) (Int (pos t)) row ≡ (bytes_eq s (text_at 0 row) && is_strictly_between f t (whole_number_at 1 row))
 within_so s f t row form =
     ap₂ (λ x y. x && y)
-    (ap (λ v. equal Binary v (Text s)) form.0 ∙ texts_equal (text_at 0 row) s ∙ either_way (text_at 0 row) s)
+    (ap (λ v. equal Binary v (Text s)) form.0 ∙ text_equal (text_at 0 row) s ∙ either_way (text_at 0 row) s)
     (ap (λ v. exceeds v (Int (pos f)) && precedes v (Int (pos t))) form.1 ∙ ap₂ (λ x y. x && y) (above_test (whole_number_at 1 row) f) (below_test (whole_number_at 1 row) t))
 
 -- a test of what passes another
@@ -78,10 +80,6 @@ any_filter p q (row ∷ rows) = by_case (q row) (any_filter p q rows)
     by_case true e = ap (λ x. p row || x) e
     by_case false e = e
 
-any_same : (p q : Row → Bool) (rows : List Row) → AllByRecursion (λ row. p row ≡ q row) rows → list_any p rows ≡ list_any q rows
-any_same p q [] all = refl
-any_same p q (row ∷ rows) all = ap₂ (λ x y. x || y) all.0 (any_same p q rows all.1)
-
 any_and : (t : Bool) (p : Row → Bool) (rows : List Row) → list_any (λ row. t && p row) rows ≡ (t && list_any p rows)
 any_and true p rows = refl
 any_and false p [] = refl
@@ -91,16 +89,12 @@ any_here : (key : TransmissionKey) (o : Option (List ℕ)) → list_any (is_tran
 any_here key None = refl
 any_here key (Some body) = ap (λ x. x || false) (both_same key.sender key.number)
 
-any_kept : (p : Row → Bool) (rows : List Row) → list_any p (filter p rows) ≡ list_any p rows
-any_kept p rows = any_filter p p rows ∙ any_twice rows
+pub any_kept : (p : Row → Bool) (rows : List Row) → list_any p (filter p rows) ≡ list_any p rows
+any_kept p rows = any_filter p p rows ∙ any_same (λ row. p row && p row) p (λ row. twice (p row)) rows
   where
     twice : (b : Bool) → (b && b) ≡ b
     twice true = refl
     twice false = refl
-
-    any_twice : (rs : List Row) → list_any (λ row. p row && p row) rs ≡ list_any p rs
-    any_twice [] = refl
-    any_twice (r ∷ rs) = ap₂ (λ x y. x || y) (twice (p r)) (any_twice rs)
 
 any_number : (q : ℕ) (rows : List Row) → list_any (eq_by_cmp nat_cmp q) (map (whole_number_at 1) rows) ≡ list_any (is_numbered q) rows
 any_number q [] = refl
@@ -110,8 +104,7 @@ any_number q (row ∷ rows) = ap₂ (λ x y. x || y) (tie q (whole_number_at 1 r
     tie n m = grind (arith, nat_tests)
 
 any_equal : (q : ℕ) (ns : List ℕ) → list_any (eq_by_cmp nat_cmp q) ns ≡ list_any (λ m. m == q) ns
-any_equal q [] = refl
-any_equal q (n ∷ ns) = ap₂ (λ x y. x || y) (tie q n) (any_equal q ns)
+any_equal q ns = any_same (eq_by_cmp nat_cmp q) (λ m. m == q) (tie q) ns
   where
     tie : (n m : ℕ) → eq_by_cmp nat_cmp n m ≡ (m == n)
     tie n m = grind (arith, nat_tests)
@@ -149,8 +142,8 @@ two_alike : (a b : Row) (rows : List Row) → whole_number_at 1 a ≡ whole_numb
 two_alike a b rows same few =
     let n = whole_number_at 1 a in
     let both : filter (is_numbered n) (a ∷ b ∷ rows) ≡ a ∷ b ∷ filter (is_numbered n) rows =
-    ap (λ t. cond t (a ∷ filter (is_numbered n) (b ∷ rows)) (filter (is_numbered n) (b ∷ rows))) (same_numbers n (whole_number_at 1 a) refl)
-    ∙ ap (λ t. a ∷ cond t (b ∷ filter (is_numbered n) rows) (filter (is_numbered n) rows)) (same_numbers n (whole_number_at 1 b) same) in
+    ap (λ t. cond t (a ∷ filter (is_numbered n) (b ∷ rows)) (filter (is_numbered n) (b ∷ rows))) (eq-eqb n (whole_number_at 1 a) refl)
+    ∙ ap (λ t. a ∷ cond t (b ∷ filter (is_numbered n) rows) (filter (is_numbered n) rows)) (eq-eqb n (whole_number_at 1 b) same) in
     let h : length (a ∷ b ∷ filter (is_numbered n) rows) ≤ 1 = subst (λ (l : List Row). length l ≤ 1) both (few n) in
     omega (arith, h)
 
@@ -179,14 +172,6 @@ numbers_rise s (a ∷ b ∷ rows) of sorted few =
     let less : whole_number_at 1 a < whole_number_at 1 b = ⊎_elim (λ (h : whole_number_at 1 a < whole_number_at 1 b). h) (λ (h : whole_number_at 1 b ≤ whole_number_at 1 a). absurd (apart (omega (arith, h, at_most)))) (cases_lt (whole_number_at 1 a) (whole_number_at 1 b)) in
     ((less_is (whole_number_at 1 a) (whole_number_at 1 b) less, all_past (whole_number_at 1 a) (whole_number_at 1 b) (map (whole_number_at 1) rows) less rest.0), rest)
 
-filter_both : (p q : Row → Bool) (rows : List Row) → filter (λ row. p row && q row) rows ≡ filter q (filter p rows)
-filter_both p q [] = refl
-filter_both p q (row ∷ rows) = by_case (p row) (filter_both p q rows)
-  where
-    by_case : (b : Bool) → filter (λ r. p r && q r) rows ≡ filter q (filter p rows) → cond (b && q row) (row ∷ filter (λ r. p r && q r) rows) (filter (λ r. p r && q r) rows) ≡ filter q (cond b (row ∷ filter p rows) (filter p rows))
-    by_case true e = ap (λ l. cond (q row) (row ∷ l) l) e
-    by_case false e = e
-
 no_more : (p q : Row → Bool) → ((row : Row) → p row ≡ true → q row ≡ true) → (rows : List Row) → length (filter p rows) ≤ length (filter q rows)
 no_more p q h [] = omega arith
 no_more p q h (row ∷ rows) = by_case (p row) refl (q row) refl (no_more p q h rows)
@@ -207,14 +192,6 @@ turned true false = refl
 turned false true = refl
 turned false false = refl
 
-none_either : (x y z : Bool) → ((x && y) && false) ≡ (z && (x && false))
-none_either true true true = refl
-none_either true true false = refl
-none_either true false true = refl
-none_either true false false = refl
-none_either false y true = refl
-none_either false y false = refl
-
 module _ (b : Book) (db : Trees) (has : HasTransmissions b db) (s : List ℕ) (passes : ℕ → Bool) where
   -- a row of the sender whose number passes
   abbrev is_mine : Row → Bool
@@ -223,29 +200,19 @@ module _ (b : Book) (db : Trees) (has : HasTransmissions b db) (s : List ℕ) (p
   formed : AllByRecursion HasKeyForm (rows_in layout.transmissions db)
   formed = all_rows is_transmission_row transmission_key_of (λ r. both_same (text_at 0 r) (whole_number_at 1 r)) HasKeyForm (transmission_rows b) (rows_in layout.transmissions db) has (λ q. transmissions_formed q (body_at b q.sender q.number))
 
-  all_mine : (test : Row → Bool) → ((row : Row) → HasKeyForm row → test row ≡ is_mine row) → (rows : List Row) → AllByRecursion HasKeyForm rows → AllByRecursion (λ row. test row ≡ is_mine row) rows
-  all_mine test means [] all = tt
-  all_mine test means (row ∷ rows) all = (means row all.0, all_mine test means rows all.1)
-
   of_sender : (rows : List Row) → AllByRecursion HasKeyForm rows → AllByRecursion (IsOf s) (filter is_mine rows)
-  of_sender [] all = tt
-  of_sender (row ∷ rows) all = by_case (bytes_eq s (text_at 0 row)) refl (passes (whole_number_at 1 row)) (of_sender rows all.1)
-    where
-      by_case : (x : Bool) → bytes_eq s (text_at 0 row) ≡ x → (y : Bool) → AllByRecursion (IsOf s) (filter is_mine rows) → AllByRecursion (IsOf s) (cond (x && y) (row ∷ filter is_mine rows) (filter is_mine rows))
-      by_case true e true more = ((all.0.0 ∙ ap Text (sym ((bytes_eq-Decides s (text_at 0 row)).0 e)), all.0.1), more)
-      by_case true e false more = more
-      by_case false e y more = more
+  of_sender rows all =
+      all_both HasKeyForm (λ row. is_mine row ≡ true) (IsOf s)
+      (λ row form mine. (form.0 ∙ ap Text (sym ((bytes_eq-Decides s (text_at 0 row)).0 (and_parts (bytes_eq s (text_at 0 row)) (passes (whole_number_at 1 row)) mine).0)), form.1))
+      (filter is_mine rows) (all-filter HasKeyForm is_mine rows all) (filter_true is_mine rows)
 
   under_key : (n : ℕ) → filter (is_transmission_row (transmission_key s n)) (rows_in layout.transmissions db) ≡ row_of_some (transmission_row (transmission_key s n)) (body_at b s n)
   under_key n = only (transmission_row (transmission_key s n)) (body_at b s n) (filter (is_transmission_row (transmission_key s n)) (rows_in layout.transmissions db)) (has (transmission_key s n))
 
   named_too : (n : ℕ) (row : Row) → (is_mine row && is_numbered n row) ≡ true → is_transmission_row (transmission_key s n) row ≡ true
-  named_too n row = by_case (bytes_eq s (text_at 0 row)) (passes (whole_number_at 1 row)) (n == whole_number_at 1 row)
-    where
-      by_case : (x y z : Bool) → ((x && y) && z) ≡ true → (x && z) ≡ true
-      by_case true true z h = h
-      by_case true false z h = absurd (false≢true h)
-      by_case false y z h = h
+  named_too n row h =
+      let mine = and_parts (is_mine row) (is_numbered n row) h in
+      and_from (bytes_eq s (text_at 0 row)) (is_numbered n row) (and_parts (bytes_eq s (text_at 0 row)) (passes (whole_number_at 1 row)) mine.0).0 mine.1
 
   few_rows : (n : ℕ) → length (filter (is_numbered n) (filter is_mine (rows_in layout.transmissions db))) ≤ 1
   few_rows n =
@@ -277,12 +244,8 @@ module _ (b : Book) (db : Trees) (has : HasTransmissions b db) (s : List ℕ) (p
           ∙ ap (λ t. passes q && (bytes_eq s (text_at 0 row) && t)) (sym e)
       by_case false e =
           ap (λ t. (bytes_eq s (text_at 0 row) && passes (whole_number_at 1 row)) && t) e
-          ∙ none_either (bytes_eq s (text_at 0 row)) (passes (whole_number_at 1 row)) (passes q)
+          ∙ and_right (is_mine row) false refl ∙ sym (and_right (passes q) (bytes_eq s (text_at 0 row) && false) (and_right (bytes_eq s (text_at 0 row)) false refl))
           ∙ ap (λ t. passes q && (bytes_eq s (text_at 0 row) && t)) (sym e)
-
-  all_either : (q : ℕ) (rows : List Row) → AllByRecursion (λ row. (is_mine row && is_numbered q row) ≡ (passes q && is_transmission_row (transmission_key s q) row)) rows
-  all_either q [] = tt
-  all_either q (row ∷ rows) = (mine_or_other q row, all_either q rows)
 
   members : (found : List Row) → IsPermutation (filter is_mine (rows_in layout.transmissions db)) found → (q : ℕ) → list_any (eq_by_cmp nat_cmp q) (map (whole_number_at 1) found) ≡ list_any (eq_by_cmp nat_cmp q) (filter passes (numbers_of b s))
   members found these q =
@@ -290,7 +253,7 @@ module _ (b : Book) (db : Trees) (has : HasTransmissions b db) (s : List ℕ) (p
       any_number q found
       ∙ sym (list_any-IsPermutation (is_numbered q) (filter is_mine rows) found these)
       ∙ any_filter (is_numbered q) is_mine rows
-      ∙ any_same (λ row. is_mine row && is_numbered q row) (λ row. passes q && is_transmission_row (transmission_key s q) row) rows (all_either q rows)
+      ∙ any_same (λ row. is_mine row && is_numbered q row) (λ row. passes q && is_transmission_row (transmission_key s q) row) (mine_or_other q) rows
       ∙ any_and (passes q) (is_transmission_row (transmission_key s q)) rows
       ∙ ap (λ t. passes q && t) (there_is q ∙ sym (there_of_numbers b s q))
       ∙ sym (one_that_passes passes q (numbers_of b s))
@@ -300,7 +263,7 @@ module _ (b : Book) (db : Trees) (has : HasTransmissions b db) (s : List ℕ) (p
   numbers_found : (test : Row → Bool) → ((row : Row) → HasKeyForm row → test row ≡ is_mine row) → (found : List Row) → Lists layout.transmissions test 2 db found → map (whole_number_at 1) found ≡ filter passes (numbers_of b s)
   numbers_found test means found lists =
       let rows = rows_in layout.transmissions db in
-      let same = filter_same test is_mine rows (all_mine test means rows formed) in
+      let same = filter_same test is_mine rows (all_weaker HasKeyForm (λ row. test row ≡ is_mine row) means rows formed) in
       let these : IsPermutation (filter is_mine rows) found = subst (λ l. IsPermutation l found) same lists.rows in
       let rises = numbers_rise s found (all-permutation (IsOf s) (filter is_mine rows) found these (of_sender rows formed)) lists.sorted (none_twice found these) in
       sym (ascending_in_order nat_cmp_total exact_numbers (map (whole_number_at 1) found) rises)

@@ -1,13 +1,11 @@
 -- What the rows of a pool's cut and of its returns show of its order.
-use Rattle.std.proofs.Common.{◌≡◌, ◌∙◌, ℕ, pos, true, List, [], ◌∷◌, Option, Some, None, Result, Ok, Err, IfOk, refl, ap, subst, arith, map, filter, option_map, IsPermutation}
+use Rattle.std.proofs.Common.{◌≡◌, ◌∙◌, ℕ, pos, List, [], ◌∷◌, Option, Some, None, Result, Ok, Err, IfOk, refl, ap, subst, map, option_map, IsPermutation}
 use Rattle.std.specs.List.{AllByRecursion}
-use Rattle.std.proofs.lemmas.Bool.Decides.{nat_tests}
-use Rattle.std.proofs.lemmas.List.Sorted.{IsPermutation-map, IsPermutation-trans}
+use Rattle.std.proofs.lemmas.List.Sorted.{IsPermutation-map}
 use Rattle.share_rules.specs.declared.kind.Kind.{Kind}
 use Rattle.share_rules.specs.declared.kind.Kind.TheVariants.{Performing, Mechanical}
 use Rattle.share_rules.specs.declared.office.Office.{Office}
 use Rattle.sqlite_schema.specs.Rules.{equal}
-use Rattle.sqlite_trees.proofs.ListLemmas.{filter_same}
 use Rattle.sqlite_trees.specs.Tree.{Trees}
 use Rattle.sqlite_value.specs.Order.{Row, column}
 use Rattle.sqlite_value.specs.declared.keys.Collation.TheVariants.{Binary}
@@ -29,17 +27,14 @@ use Rattle.society_book.specs.Columns.{whole_number_at}
 use Rattle.society_book.specs.Kept.{HoldsBook}
 use Rattle.society_book.proofs.lemmas.rows_alike.BookLemmas.{cuts_back, kind_back, named_refilled, one_ascent, paid_back}
 use Rattle.society_book.proofs.lemmas.shown.CreditRows.{HasNumber, found_by_number}
-use Rattle.society_book.proofs.lemmas.rows_alike.Equals.{numbers_equal}
-use Rattle.society_book.proofs.lemmas.rows_alike.KeyRows.{numbers_either_way}
-use Rattle.society_book.proofs.lemmas.rows_alike.RowLemmas.{all_rows}
-
-cut_numbered : (q : ℕ) (keys : List TransmissionKey) → AllByRecursion HasNumber (map (cut_row q) keys)
-cut_numbered q [] = tt
-cut_numbered q (key ∷ keys) = (refl, cut_numbered q keys)
+use Rattle.society_book.proofs.lemmas.rows_alike.KeyRows.{numbers_either_way, numbers_equal}
+use Rattle.society_book.proofs.lemmas.rows_alike.RowLemmas.{found_under}
+use Rattle.sqlite_keyed.proofs.ListLemmas.{all-map}
+use Rattle.std.proofs.lemmas.Bool.{eq-eqb}
 
 cuts_numbered : (q : ℕ) (o : Option Order) → AllByRecursion HasNumber (rows_of_order (cut_row q) (λ order. order.cut) o)
 cuts_numbered q None = tt
-cuts_numbered q (Some order) = cut_numbered q order.cut
+cuts_numbered q (Some order) = all-map HasNumber (cut_row q) (λ key. refl) order.cut
 
 mark_numbered : (q : ℕ) (kind : Kind) → AllByRecursion HasNumber (marks_of q kind)
 mark_numbered q Performing = tt
@@ -53,21 +48,9 @@ marks_numbered q (Some order) = mark_numbered q order.kind
 abbrev HasPool : Row → Type 0
 HasPool row = column row 2 ≡ Int (pos (whole_number_at 2 row))
 
-paid_by_pool : (q : ℕ) (keys : List ReturnKey) → AllByRecursion HasPool (map (paid_row q) keys)
-paid_by_pool q [] = tt
-paid_by_pool q (key ∷ keys) = (refl, paid_by_pool q keys)
-
 all_paid : (q : ℕ) (o : Option Order) → AllByRecursion HasPool (rows_of_order (paid_row q) (λ order. order.returns) o)
 all_paid q None = tt
-all_paid q (Some order) = paid_by_pool q order.returns
-
-own_pool : (row : Row) → is_of_pool 2 (whole_number_at 2 row) row ≡ true
-own_pool row = grind (arith, nat_tests)
-
-at_pool : (n : ℕ) (rows : List Row) → AllByRecursion HasPool rows → AllByRecursion (λ row. has_at 2 (Int (pos n)) row ≡ is_of_pool 2 n row) rows
-at_pool n [] all = tt
-at_pool n (row ∷ rows) all =
-    (ap (λ v. equal Binary v (Int (pos n))) all.0 ∙ numbers_equal (whole_number_at 2 row) n ∙ numbers_either_way (whole_number_at 2 row) n, at_pool n rows all.1)
+all_paid q (Some order) = all-map HasPool (paid_row q) (λ key. refl) order.returns
 
 module _ (o : Office) (b : Book) (db : Trees) (holds : HoldsBook o b db) (n : ℕ) (found : List Row) where
   -- the right that a pool pays, by its marks
@@ -88,10 +71,10 @@ module _ (o : Office) (b : Book) (db : Trees) (holds : HoldsBook o b db) (n : �
   -- the returns that it pays
   pub returns_found : Lists layout.pool_returns (has_at 2 (Int (pos n))) 2 db found → (keys : List ReturnKey) → keys ≡ map return_key_of found → (order : Order) → order_at b n ≡ Some order → ascending return_cmp keys ≡ order.returns
   returns_found lists keys are order there =
-      let rows = rows_in layout.pool_returns db in
-      let forms = all_rows (is_of_pool 2) (whole_number_at 2) own_pool HasPool (paid_rows b) rows holds.kept.paid (λ q. all_paid q (order_at b q)) in
-      let same : filter (has_at 2 (Int (pos n))) rows ≡ filter (is_of_pool 2 n) rows = filter_same (has_at 2 (Int (pos n))) (is_of_pool 2 n) rows (at_pool n rows forms) in
-      let all : IsPermutation (paid_rows b n) found = IsPermutation-trans (paid_rows b n) (filter (is_of_pool 2 n) rows) found (holds.kept.paid n) (subst (λ l. IsPermutation l found) same lists.rows) in
+      let all : IsPermutation (paid_rows b n) found =
+      found_under HasPool (is_of_pool 2) (whole_number_at 2) (λ row. eq-eqb (whole_number_at 2 row) (whole_number_at 2 row) refl) n (has_at 2 (Int (pos n)))
+      (λ row is. ap (λ v. equal Binary v (Int (pos n))) is ∙ numbers_equal (whole_number_at 2 row) n ∙ numbers_either_way (whole_number_at 2 row) n)
+      layout.pool_returns (paid_rows b) 2 db found holds.kept.paid (λ q. all_paid q (order_at b q)) lists in
       let these : IsPermutation (map (paid_row n) order.returns) found = subst (λ (x : Option Order). IsPermutation (rows_of_order (paid_row n) (λ x. x.returns) x) found) there all in
       ap (ascending return_cmp) are
       ∙ one_ascent returns_total exact_returns (map return_key_of (map (paid_row n) order.returns)) (map return_key_of found) (IsPermutation-map return_key_of (map (paid_row n) order.returns) found these)

@@ -1,12 +1,11 @@
 -- What the rows of the returns that pools pay show.
-use Rattle.std.proofs.Common.{◌≡◌, ◌∙◌, ◌&&◌, ◌||◌, ◌==◌, inl, inr, ℕ, pos, Bool, true, false, cond, List, [], ◌∷◌, Option, Some, None, is_some, refl, ap, sym, subst, arith, map, filter, IsPermutation}
+use Rattle.std.proofs.Common.{◌≡◌, ◌∙◌, ◌&&◌, ◌||◌, ◌==◌, inl, inr, ℕ, pos, Bool, true, false, cond, List, [], ◌∷◌, Option, Some, None, is_some, refl, ap, sym, subst, map, filter, IsPermutation}
 use Rattle.std.specs.FinMap as finite
 use Rattle.std.specs.FinMap.Entries.{find}
 use Rattle.std.specs.List as lists
 use Rattle.std.specs.List.{AllByRecursion, list_all, list_any}
 use Rattle.std.specs.Ordering.{eq_by_cmp, nat_cmp}
-use Rattle.std.proofs.lemmas.Bool.{false≢true}
-use Rattle.std.proofs.lemmas.Bool.Decides.{nat_tests}
+use Rattle.std.proofs.lemmas.Bool.{false≢true, eq-eqb, or_left, or_right}
 use Rattle.std.proofs.lemmas.List.Sorted.{list_any-IsPermutation}
 use Rattle.share_rules.specs.declared.office.Office.{Office}
 use Rattle.sqlite_trees.proofs.ListLemmas.{all-permutation, filter_same}
@@ -27,11 +26,14 @@ use Rattle.society_book.specs.BookRows.{is_of_pool, is_return_row, paid_row, pai
 use Rattle.society_book.specs.Columns.{whole_number_at, text_at}
 use Rattle.society_book.specs.Kept.{HoldsBook}
 use Rattle.society_book.specs.Shown.{ShowPayer}
-use Rattle.society_book.proofs.lemmas.rows_alike.BookLemmas.{IsRefilled, all_refilled, third_holds}
+use Rattle.society_book.proofs.lemmas.rows_alike.BookLemmas.{IsRefilled, all_refilled, third_holds, filter_true}
 use Rattle.society_book.proofs.lemmas.rows_alike.KeyRows.{filled_same, keyed}
 use Rattle.society_book.proofs.lemmas.rows_alike.RowLemmas.{all_rows}
 use Rattle.work_ids.specs.Blanks.{fill, without_trailing_blanks}
 use Rattle.work_ids.specs.Numbers.{is_pool_number}
+use Rattle.sqlite_keyed.proofs.ListLemmas.{all-filter, all_both, all_weaker}
+use Rattle.society_book.proofs.lemmas.shown.NumberRows.{any_kept}
+use Rattle.sqlite_rules.proofs.ListLemmas.{has_filtered, some_from, some_has}
 
 -- ---- the payer of a return
 
@@ -79,17 +81,6 @@ Tells b key row =
     × (without_trailing_blanks (fill 20 (text_at 0 row)) ≡ text_at 0 row)
     × (is_return_row key row ≡ true → payer b key ≡ Some (whole_number_at 2 row))
 
-own_pool : (row : Row) → is_of_pool 2 (whole_number_at 2 row) row ≡ true
-own_pool row = grind (arith, nat_tests)
-
-first_true : (a b : Bool) → a ≡ true → (a || b) ≡ true
-first_true true b h = refl
-first_true false b h = absurd (false≢true h)
-
-second_true : (a b : Bool) → b ≡ true → (a || b) ≡ true
-second_true true b h = refl
-second_true false b h = h
-
 module _ (o : Office) (b : Book) (db : Trees) (holds : HoldsBook o b db) (key : ReturnKey) (whole : IsRefilled key) where
   read_back : (pool : ℕ) (k : ReturnKey) → IsRefilled k → return_key_of (paid_row pool k) ≡ k
   read_back pool k refilled = λ i. record { reporter = refilled i; number = k.number }
@@ -103,9 +94,9 @@ module _ (o : Office) (b : Book) (db : Trees) (holds : HoldsBook o b db) (key : 
       λ same.
           let one : key ≡ k = same_return_is key (return_key_of (paid_row pool k)) same ∙ read_back pool k refilled.0 in
           let names : same_return_key k key ≡ true = subst (λ (x : ReturnKey). same_return_key x key ≡ true) (one) (subst (λ (x : ReturnKey). same_return_key key x ≡ true) (read_back pool k refilled.0 ∙ sym one) same) in
-          pays b key holds.sound pool order there (named (first_true (same_return_key k key) (list_any (λ x. same_return_key x key) ks) names)),
+          pays b key holds.sound pool order there (named (or_left (same_return_key k key) (list_any (λ x. same_return_key x key) ks) names)),
     ),
-    each_tells pool order there ks refilled.1 (λ h. named (second_true (same_return_key k key) (list_any (λ x. same_return_key x key) ks) h)),
+    each_tells pool order there ks refilled.1 (λ h. named (or_right (same_return_key k key) (list_any (λ x. same_return_key x key) ks) h)),
   )
 
   returns_of : (pool : ℕ) (order : Order) → order_at b pool ≡ Some order → AllByRecursion IsRefilled order.returns
@@ -116,45 +107,19 @@ module _ (o : Office) (b : Book) (db : Trees) (holds : HoldsBook o b db) (key : 
   of_pool pool (Some order) is = each_tells pool order is order.returns (returns_of pool order is) (λ h. h)
 
   all_tell : AllByRecursion (Tells b key) (rows_in layout.pool_returns db)
-  all_tell = all_rows (is_of_pool 2) (whole_number_at 2) own_pool (Tells b key) (paid_rows b) (rows_in layout.pool_returns db) holds.kept.paid (λ pool. of_pool pool (order_at b pool) refl)
+  all_tell = all_rows (is_of_pool 2) (whole_number_at 2) (λ row. eq-eqb (whole_number_at 2 row) (whole_number_at 2 row) refl) (Tells b key) (paid_rows b) (rows_in layout.pool_returns db) holds.kept.paid (λ pool. of_pool pool (order_at b pool) refl)
 
   keyed_here : (row : Row) → Tells b key row → has_key (Text (without_trailing_blanks key.reporter) ∷ Int (pos key.number) ∷ []) row ≡ is_return_row key row
   keyed_here row tells =
       keyed (without_trailing_blanks key.reporter) key.number row (ap (λ (r : Row). Rattle.sqlite_value.specs.Order.column r 0) tells.0, ap (λ (r : Row). Rattle.sqlite_value.specs.Order.column r 1) tells.0)
       ∙ ap (λ x. x && key.number == whole_number_at 1 row) (filled_same key.reporter (text_at 0 row) whole tells.1)
 
-  all_keyed : (rows : List Row) → AllByRecursion (Tells b key) rows → AllByRecursion (λ row. has_key (Text (without_trailing_blanks key.reporter) ∷ Int (pos key.number) ∷ []) row ≡ is_return_row key row) rows
-  all_keyed [] all = tt
-  all_keyed (row ∷ rows) all = (keyed_here row all.0, all_keyed rows all.1)
-
   -- a row of the key
   abbrev IsHere : Row → Type 0
   IsHere row = Tells b key row × (is_return_row key row ≡ true)
 
-  passing : (rows : List Row) → AllByRecursion (Tells b key) rows → AllByRecursion IsHere (filter (is_return_row key) rows)
-  passing [] all = tt
-  passing (row ∷ rows) all = by_case (is_return_row key row) refl (passing rows all.1)
-    where
-      by_case : (t : Bool) → is_return_row key row ≡ t → AllByRecursion IsHere (filter (is_return_row key) rows) → AllByRecursion IsHere (cond t (row ∷ filter (is_return_row key) rows) (filter (is_return_row key) rows))
-      by_case true is more = ((all.0, is), more)
-      by_case false is more = more
-
-  any_kept : (p q : Row → Bool) (rows : List Row) → list_any p (filter q rows) ≡ true → list_any p rows ≡ true
-  any_kept p q [] h = h
-  any_kept p q (row ∷ rows) h = by_case (q row) (p row) refl h (any_kept p q rows)
-    where
-      by_case : (t u : Bool) → p row ≡ u → list_any p (cond t (row ∷ filter q rows) (filter q rows)) ≡ true → (list_any p (filter q rows) ≡ true → list_any p rows ≡ true) → (p row || list_any p rows) ≡ true
-      by_case t true is some later = first_true (p row) (list_any p rows) is
-      by_case true false is some later = second_true (p row) (list_any p rows) (later (sym (ap (λ x. x || list_any p (filter q rows)) is) ∙ some))
-      by_case false false is some later = second_true (p row) (list_any p rows) (later some)
-
-  none_passes : (p : Row → Bool) (rows : List Row) → filter p rows ≡ [] → list_any p rows ≡ false
-  none_passes p [] h = refl
-  none_passes p (row ∷ rows) h = by_case (p row) refl h (none_passes p rows)
-    where
-      by_case : (t : Bool) → p row ≡ t → cond t (row ∷ filter p rows) (filter p rows) ≡ [] → (filter p rows ≡ [] → list_any p rows ≡ false) → (p row || list_any p rows) ≡ false
-      by_case true is e later = absurd (let x = e in cc)
-      by_case false is e later = ap (λ x. x || list_any p rows) is ∙ later e
+  any_passed : (p q : Row → Bool) (rows : List Row) → list_any p (filter q rows) ≡ true → list_any p rows ≡ true
+  any_passed p q rows h = let found = some_has p (filter q rows) h in some_from p rows found.0 (has_filtered q rows found.0 found.1).0 found.2
 
   named_row : (pool : ℕ) (ks : List ReturnKey) → AllByRecursion IsRefilled ks → list_any (λ named. same_return_key named key) ks ≡ true → list_any (is_return_row key) (map (paid_row pool) ks) ≡ true
   named_row pool [] refilled h = h
@@ -163,16 +128,16 @@ module _ (o : Office) (b : Book) (db : Trees) (holds : HoldsBook o b db) (key : 
       by_case : (t : Bool) → same_return_key k key ≡ t → (list_any (λ named. same_return_key named key) ks ≡ true → list_any (is_return_row key) (map (paid_row pool) ks) ≡ true) → (is_return_row key (paid_row pool k) || list_any (is_return_row key) (map (paid_row pool) ks)) ≡ true
       by_case true is later =
           let one : k ≡ key = same_return_is k key is in
-          first_true (is_return_row key (paid_row pool k)) (list_any (is_return_row key) (map (paid_row pool) ks))
+          or_left (is_return_row key (paid_row pool k)) (list_any (is_return_row key) (map (paid_row pool) ks))
           (ap (same_return_key key) (read_back pool k refilled.0) ∙ ap (same_return_key key) one ∙ subst (λ (x : ReturnKey). same_return_key x key ≡ true) one is)
-      by_case false is later = second_true (is_return_row key (paid_row pool k)) (list_any (is_return_row key) (map (paid_row pool) ks)) (later (sym (ap (λ x. x || list_any (λ named. same_return_key named key) ks) is) ∙ h))
+      by_case false is later = or_right (is_return_row key (paid_row pool k)) (list_any (is_return_row key) (map (paid_row pool) ks)) (later (sym (ap (λ x. x || list_any (λ named. same_return_key named key) ks) is) ∙ h))
 
   -- a return that is paid has a row
   has_row : (pool : ℕ) → payer b key ≡ Some pool → list_any (is_return_row key) (rows_in layout.pool_returns db) ≡ true
   has_row pool e =
       let found = payer_names b key pool e in
       let expected : IsPermutation (map (paid_row pool) found.0.returns) (filter (is_of_pool 2 pool) (rows_in layout.pool_returns db)) = subst (λ (x : Option Order). IsPermutation (rows_of_order (paid_row pool) (λ order. order.returns) x) (filter (is_of_pool 2 pool) (rows_in layout.pool_returns db))) found.1 (holds.kept.paid pool) in
-      any_kept (is_return_row key) (is_of_pool 2 pool) (rows_in layout.pool_returns db)
+      any_passed (is_return_row key) (is_of_pool 2 pool) (rows_in layout.pool_returns db)
       (sym (list_any-IsPermutation (is_return_row key) (map (paid_row pool) found.0.returns) (filter (is_of_pool 2 pool) (rows_in layout.pool_returns db)) expected)
       ∙ named_row pool found.0.returns (returns_of pool found.0 found.1) found.2)
 
@@ -180,17 +145,15 @@ module _ (o : Office) (b : Book) (db : Trees) (holds : HoldsBook o b db) (key : 
   pub payer_found : (found : List Row) → Lists layout.pool_returns (has_key (Text (without_trailing_blanks key.reporter) ∷ Int (pos key.number) ∷ [])) 2 db found → ShowPayer (payer b key) found
   payer_found found lists =
       let rows = rows_in layout.pool_returns db in
-      let same = filter_same (has_key (Text (without_trailing_blanks key.reporter) ∷ Int (pos key.number) ∷ [])) (is_return_row key) rows (all_keyed rows all_tell) in
+      let same = filter_same (has_key (Text (without_trailing_blanks key.reporter) ∷ Int (pos key.number) ∷ [])) (is_return_row key) rows (all_weaker (Tells b key) (λ row. has_key (Text (without_trailing_blanks key.reporter) ∷ Int (pos key.number) ∷ []) row ≡ is_return_row key row) keyed_here rows all_tell) in
       let these : IsPermutation (filter (is_return_row key) rows) found = subst (λ l. IsPermutation l found) same lists.rows in
-      shows found these (all-permutation IsHere (filter (is_return_row key) rows) found these (passing rows all_tell)) (payer b key) refl
+      shows found these (all-permutation IsHere (filter (is_return_row key) rows) found these (all_both (Tells b key) (λ row. is_return_row key row ≡ true) IsHere (λ row tells is. (tells, is)) (filter (is_return_row key) rows) (all-filter (Tells b key) (is_return_row key) rows all_tell) (filter_true (is_return_row key) rows))) (payer b key) refl
     where
       shows : (found : List Row) → IsPermutation (filter (is_return_row key) (rows_in layout.pool_returns db)) found → AllByRecursion IsHere found → (x : Option ℕ) → payer b key ≡ x → ShowPayer (payer b key) found
       shows [] these here None is = inl (refl, is)
-      shows [] these here (Some pool) is = absurd (false≢true (sym (none_passes (is_return_row key) (rows_in layout.pool_returns db) (none_before (filter (is_return_row key) (rows_in layout.pool_returns db)) these)) ∙ has_row pool is))
-        where
-          none_before : (rows : List Row) → IsPermutation rows [] → rows ≡ []
-          none_before [] p = refl
-          none_before (row ∷ rows) p = absurd (omega (arith, Rattle.std.proofs.lemmas.List.Sorted.length_permutation (row ∷ rows) [] p))
+      shows [] these here (Some pool) is =
+          let rows = rows_in layout.pool_returns db in
+          absurd (false≢true (sym (list_any-IsPermutation (is_return_row key) (filter (is_return_row key) rows) [] these) ∙ any_kept (is_return_row key) rows ∙ has_row pool is))
       shows (row ∷ more) these here x is =
           inr (text_at 0 row, whole_number_at 1 row, whole_number_at 2 row, more, ap (λ (r : Row). r ∷ more) here.0.0.0, here.0.0.2 here.0.1)
 

@@ -1,6 +1,6 @@
 -- A front among the plain numbers: all numbers up to it are in the line, whatever ends were stated.
-use Rattle.std.proofs.Common.{◌≡◌, ℕ, ◌-◌, ◌<◌, ◌≤◌, ◌&&◌, Bool, true, false, nat_le, List, [], None, refl, ap, sym, ◌∙◌, arith, ⊎_elim}
-use Rattle.std.proofs.lemmas.Bool.{cases_lt}
+use Rattle.std.proofs.Common.{◌≡◌, ℕ, ◌-◌, ◌<◌, ◌≤◌, true, false, nat_le, List, [], None, refl, ap, sym, ◌∙◌, arith, ⊎_elim}
+use Rattle.std.proofs.lemmas.Bool.{and_right, cases_lt}
 use Rattle.std.proofs.lemmas.Bool.Decides.{nat_tests}
 use Rattle.std.specs.List.{range_with_len}
 use Rattle.work_ids.specs.Segments.{segment_of}
@@ -28,17 +28,13 @@ plain_line ends f n low some =
     ap (λ (ns : List ℕ). is_one_of ns n) (plain_numbers ends f plain ∙ sym (plain_numbers no_ends f plain))
     ∙ up_to_front no_ends no_ends_right f n led (λ e is. absurd (none_some e is))
     ∙ ⊎_elim
-    (λ (above : f < n). let no : nat_le n f ≡ false = grind (arith, nat_tests) in rw no (and_false _))
+    (λ (above : f < n). let no : nat_le n f ≡ false = grind (arith, nat_tests) in rw no (and_right _ false refl))
     (λ (below : n ≤ f).
     let at : segment_of n ≡ 0 = made_plain n (omega (arith, low, below)) in
     let yes : nat_le n f ≡ true = grind (arith, nat_tests) in
     let first : nat_le 1 (n - 0) ≡ true = grind (arith, nat_tests) in
     rw (at, yes, first) refl)
     (cases_lt f n)
-  where
-    and_false : (a : Bool) → (a && false) ≡ false
-    and_false true = refl
-    and_false false = refl
 
 -- up to such a front no segment is skipped
 pub plain_lists : (book : Book) (sender : List ℕ) (f : ℕ) → f ≤ 999999 → ListsSkipped book sender f []

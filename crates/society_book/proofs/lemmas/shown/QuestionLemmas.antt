@@ -1,5 +1,5 @@
 -- What questions of the tables, asked one after another, find.
-use Rattle.std.proofs.Common.{◌≡◌, IsTrue, Result, Ok, Err, IfOk, OnOk, subst, sym, arith, ◌∙◌}
+use Rattle.std.proofs.Common.{◌≡◌, List, Vec, IsTrue, Result, Ok, Err, IfOk, OnOk, subst, sym, arith, ◌∙◌}
 use Rattle.share_rules.specs.declared.office.Office.{Office}
 use Rattle.society_core.specs.Book.{Book}
 use Rattle.society_rows.specs.declared.fault.RowFault.{RowFault}
@@ -11,6 +11,8 @@ use Rattle.sqlite.specs.Effect.{Database}
 use Rattle.sqlite.specs.State.{HasCleanDisk, State}
 use Rattle.sqlite.proofs.StateLemmas.{survives_then}
 use Rattle.society_rows.specs.Stored.{HasLayout}
+use Rattle.std.specs.declared.alloc.Global.{Global}
+use Rattle.sqlite_value.specs.Order.{Row}
 
 -- what follows of every book that the tables hold, of an answer that may be an error
 pub by_book : {T : Type 0} (IsAnswer : Office → Book → T → Type 0) (db : Trees) (r : Result T RowFault) → ((o : Office) (b : Book) → HoldsBook o b db → IfOk r (IsAnswer o b)) → IfOk r (ByBook IsAnswer db)
@@ -31,6 +33,13 @@ then_asked {X} {Y} old new x r Found IsFound asked finds = record {
     on_ok : (z : Result Y RowFault) → IsTrue old.is_open → OnOk z (IsTrue old.is_open)
     on_ok (Ok y) h = h
     on_ok (Err fault) h = tt
+
+-- an answer by what rows show that were asked, where they show it of every book that the tables hold
+pub asked_shown : {Y K : Type 0} (old new : State) (rows : Vec Row Global) (shown : List Row) (r : Result Y RowFault) (Found : Trees → Vec Row Global → Type 0) (Shows : K → List Row → Type 0) (Says : K → Y → Type 0) (its : Office → Book → K)
+    → Rows.Asks old new (Ok rows) Found → shown ≡ rows.items → ((k : K) → Shows k shown → IfOk r (Says k)) → ((o : Office) (b : Book) → HoldsBook o b old.now.trees → Found old.now.trees rows → Shows (its o b) rows.items) → Rows.Asks old new r (ByBook (λ o b. Says (its o b)))
+asked_shown old new rows shown r Found Shows Says its asked same answers shows =
+    then_asked old new rows r Found (ByBook (λ o b. Says (its o b))) asked
+    (λ found. by_book (λ o b. Says (its o b)) old.now.trees r (λ o b holds. answers (its o b) (subst (Shows (its o b)) (sym same) (shows o b holds found))))
 
 -- one question after another, the second of what the first left
 pub asked_then : {X Y : Type 0} (old mid new : State) (x : X) (r : Result Y RowFault) (Found : Trees → X → Type 0) (IsFound : Trees → Y → Type 0) (Then : Trees → Y → Type 0) → Rows.Asks old mid (Ok x) Found → Rows.Asks mid new r IsFound → ((y : Y) → Found old.now.trees x → IsFound old.now.trees y → Then old.now.trees y) → Rows.Asks old new r Then

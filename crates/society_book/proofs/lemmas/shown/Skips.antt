@@ -1,7 +1,6 @@
 -- Which numbers the ends of a sender skip on their way to a front.
-use Rattle.std.proofs.Common.{◌≡◌, ◌∙◌, ◌<◌, ◌≤◌, ◌+◌, ◌-◌, ◌&&◌, ◌||◌, ◌++◌, ℕ, suc, Bool, true, false, cond, List, [], ◌∷◌, Option, Some, None, nat_le, nat_lt, not, refl, ap, ap₂, sym, subst, arith, ⊎_elim}
-use Rattle.std.proofs.lemmas.Bool.{cases_lt, false≢true}
-use Rattle.std.proofs.lemmas.Bool.Decides.{nat_tests}
+use Rattle.std.proofs.Common.{◌≡◌, ◌∙◌, ◌<◌, ◌≤◌, ◌+◌, ◌-◌, ◌||◌, ◌++◌, ℕ, suc, Bool, true, false, cond, List, [], ◌∷◌, Option, Some, None, nat_le, nat_lt, not, refl, ap, ap₂, sym, subst, arith, ⊎_elim}
+use Rattle.std.proofs.lemmas.Bool.{and_from, and_left, and_right, cases_lt, false≢true, le-ltb, leb-false, leb-true, lt-ltb, or_right}
 use Rattle.sender_segments.specs.Ways.{AreRight, End, StatedEnds, leads_to}
 use Rattle.sender_segments.proofs.lemmas.LedTo.{base_segment, led_over, led_together, skips, stops}
 use Rattle.sender_segments.proofs.lemmas.Ranks.{bases_order, bases_rise, number_is}
@@ -11,32 +10,19 @@ use Rattle.society_book.specs.Standing.{AreSkipped, SkipsRise, is_skipped, is_st
 use Rattle.society_book.specs.declared.skips.Skip.{Skip}
 use Rattle.work_ids.specs.Segments.{base_of, most_in, segment_of, sequence_of}
 
-le_of : (a b : ℕ) → nat_le a b ≡ true → a ≤ b
-le_of a b h = grind (arith, nat_tests)
-
-below_of : (a b : ℕ) → nat_le a b ≡ false → b < a
-below_of a b h = grind (arith, nat_tests)
-
 within_holds : (above below n : ℕ) → above < n → n < below → is_strictly_between above below n ≡ true
-within_holds above below n low high = grind (arith, nat_tests, low, high)
+within_holds above below n low high = and_from (nat_lt above n) (nat_lt n below) (lt-ltb above n low) (lt-ltb n below high)
 
 pub within_fails : (above below n : ℕ) → n ≤ above → is_strictly_between above below n ≡ false
-within_fails above below n high = grind (arith, nat_tests, high)
+within_fails above below n high = and_left (nat_lt above n) (nat_lt n below) (le-ltb above n high)
 
 pub past_fails : (above below n : ℕ) → below ≤ n → is_strictly_between above below n ≡ false
-past_fails above below n low = by_first (nat_lt above n)
-  where
-    not_below : nat_lt n below ≡ false
-    not_below = grind (arith, nat_tests, low)
-
-    by_first : (x : Bool) → (x && nat_lt n below) ≡ false
-    by_first true = not_below
-    by_first false = refl
+past_fails above below n low = and_right (nat_lt above n) (nat_lt n below) (le-ltb n below low)
 
 pub none_some : {X : Type 0} (x : X) → ◌≡◌ {A = Option X} None (Some x) → ⊥
 none_some x e = cc
 
-some_same : {X : Type 0} (x y : X) → ◌≡◌ {A = Option X} (Some x) (Some y) → x ≡ y
+pub some_same : {X : Type 0} (x y : X) → ◌≡◌ {A = Option X} (Some x) (Some y) → x ≡ y
 some_same x y e = cc
 
 -- a later segment begins behind a former one
@@ -58,7 +44,7 @@ passed_is front None next h = absurd (none_some next h)
 passed_is front (Some end) next h = by_case (nat_le (base_of end.next) front) refl h
   where
     by_case : (c : Bool) → nat_le (base_of end.next) front ≡ c → cond c (Some (base_of end.next)) None ≡ Some next → IsPassed front (Some end) next
-    by_case true le is = record { end = end; is = refl; at = sym (some_same (base_of end.next) next is); within = le_of (base_of end.next) front le }
+    by_case true le is = record { end = end; is = refl; at = sym (some_same (base_of end.next) next is); within = leb-true (base_of end.next) front le }
     by_case false le is = absurd (none_some next is)
 
 not_passed : (front : ℕ) (end : End) → passed_to front (Some end) ≡ None → front < base_of end.next
@@ -66,7 +52,7 @@ not_passed front end h = by_case (nat_le (base_of end.next) front) refl h
   where
     by_case : (c : Bool) → nat_le (base_of end.next) front ≡ c → cond c (Some (base_of end.next)) None ≡ None → front < base_of end.next
     by_case true le is = absurd (none_some (base_of end.next) (sym is))
-    by_case false le is = below_of (base_of end.next) front le
+    by_case false le is = leb-false (base_of end.next) front le
 
 -- skips that rise up to a rank rise up to each later one
 rises_on : (low high to : ℕ) (list : List Skip) → SkipsRise low list high → high ≤ to → SkipsRise low list to
@@ -89,12 +75,12 @@ none_skipped low high n (skip ∷ list) rise le =
     let rest = rise_within skip.below high list rise.2 in
     ap₂ (λ x y. x || y) (past_fails skip.above skip.below n (omega (arith, rest, le))) (none_skipped skip.below high n list rise.2 le)
 
+pub last_false : (x : Bool) → (x || false) ≡ x
+last_false true = refl
+last_false false = refl
+
 skipped_with : (list : List Skip) (skip : Skip) (n : ℕ) → is_skipped (list ++ skip ∷ []) n ≡ (is_skipped list n || is_strictly_between skip.above skip.below n)
-skipped_with [] skip n = last (is_strictly_between skip.above skip.below n)
-  where
-    last : (x : Bool) → (x || false) ≡ x
-    last true = refl
-    last false = refl
+skipped_with [] skip n = last_false (is_strictly_between skip.above skip.below n)
 skipped_with (first ∷ list) skip n = ap (λ x. is_strictly_between first.above first.below n || x) (skipped_with list skip n) ∙ regroup (is_strictly_between first.above first.below n) (is_skipped list n) (is_strictly_between skip.above skip.below n)
   where
     regroup : (x y z : Bool) → (x || (y || z)) ≡ ((x || y) || z)
@@ -201,18 +187,10 @@ module _ (ends : StatedEnds) (right : AreRight ends) (front : ℕ) where
             skipped = λ n some before.
                 skipped_with list skip n
                 ∙ by_place n before ((is_skipped list n || is_strictly_between (base_of (suc g)) next n) ≡ not (leads_to ends n))
-                (λ former. ap₂ (λ x y. x || y) (so_far.skipped n some former) (of_former n some former) ∙ last (not (leads_to ends n)))
+                (λ former. ap₂ (λ x y. x || y) (so_far.skipped n some former) (of_former n some former) ∙ last_false (not (leads_to ends n)))
                 (λ own. let is = of_own n some own in ap₂ (λ x y. x || y) is.1 is.0 ∙ sym (ap not is.2))
-                (λ after till. let is = of_skipped n some after till in ap (λ y. is_skipped list n || y) is.0 ∙ or_true (is_skipped list n) ∙ sym (ap not is.1));
+                (λ after till. let is = of_skipped n some after till in ap (λ y. is_skipped list n || y) is.0 ∙ or_right (is_skipped list n) true refl ∙ sym (ap not is.1));
           }
-        where
-          last : (x : Bool) → (x || false) ≡ x
-          last true = refl
-          last false = refl
-
-          or_true : (x : Bool) → (x || true) ≡ true
-          or_true true = refl
-          or_true false = refl
 
       -- with none where they follow one another
       pub without_skip : next ≤ base_of (suc g) → AreSkippedTo next list

@@ -1,14 +1,12 @@
 -- What the rows of a transmission's verdicts show.
-use Rattle.std.proofs.Common.{◌≡◌, ◌∙◌, ◌+◌, ◌&&◌, ◌==◌, ◌++◌, ℕ, suc, zero, pos, Bool, true, false, cond, List, [], ◌∷◌, Some, None, length, refl, ap, sym, subst, arith, map, filter, IsPermutation, unwrap_or, Less, ne_eqb}
+use Rattle.std.proofs.Common.{◌≡◌, ◌∙◌, ◌+◌, ◌&&◌, ◌==◌, ℕ, suc, zero, pos, Bool, true, false, cond, List, [], ◌∷◌, Some, None, length, refl, ap, sym, subst, arith, map, filter, IsPermutation, unwrap_or, Less, ne_eqb}
 use Rattle.std.specs.List.{AllByRecursion, enumerate_from, flat_map}
-use Rattle.std.proofs.lemmas.List.Sorted.{IsPermutation-trans}
 use Rattle.std.proofs.lemmas.Slice.Eq.{bytes_eq-Decides}
 use Rattle.cwr_files.specs.Contents.{transactions_of, transmission_in}
 use Rattle.cwr_files.specs.declared.transmission.Transaction.{Transaction}
 use Rattle.share_rules.specs.declared.office.Office.{Office}
-use Rattle.sqlite_keyed.proofs.ListLemmas.{IsPermutation-filter}
+use Rattle.sqlite_keyed.proofs.ListLemmas.{all-flat_map, all_of}
 use Rattle.sqlite_sql.specs.Query.{key_cmp}
-use Rattle.sqlite_trees.proofs.ListLemmas.{filter_same}
 use Rattle.sqlite_trees.specs.Tree.{IsAscending, Trees}
 use Rattle.sqlite_value.specs.Keys.{rising}
 use Rattle.sqlite_value.specs.declared.value.Value.TheVariants.{Int, Text}
@@ -19,13 +17,12 @@ use Rattle.society_core.proofs.lemmas.LineNumbers.{line_rises_to, one_of_own}
 use Rattle.society_core.specs.Book.{Book, body_at, front, is_in_line, line, shown_verdicts, verdicts_in}
 use Rattle.society_rows.specs.Layout as layout
 use Rattle.society_rows.specs.Reads.{Lists, has_key}
-use Rattle.society_rows.specs.Stored.{rows_in}
 use Rattle.society_book.specs.Columns.{whole_number_at, text_at}
 use Rattle.society_book.specs.DerivedRows.{is_named, tells_verdict, told_by, told_from, told_to_front, verdict_row}
 use Rattle.society_book.specs.Kept.{HoldsBook}
 use Rattle.society_book.specs.Shown.{ShowVerdicts, verdict_in}
 use Rattle.society_book.proofs.lemmas.rows_alike.KeyRows.{HasKeyForm, either_way, keyed}
-use Rattle.society_book.proofs.lemmas.rows_alike.RowLemmas.{all_rows, none_else}
+use Rattle.society_book.proofs.lemmas.rows_alike.RowLemmas.{found_among, none_else}
 use Rattle.society_book.proofs.lemmas.rows_alike.SortedRows.{is_numbered, lines_back, lines_rise, none_among, one_order, rises_third, those_of}
 use Rattle.works_core.specs.declared.verdict.Verdict.{Verdict}
 use Rattle.works_core.specs.declared.verdict.Verdict.TheVariants.{Accepted, Rejected}
@@ -70,44 +67,21 @@ verdicts_rise s n p vs =
     (λ p q x y less. rises_third (verdict_row s n p x) (verdict_row s n q y) p q (first_is s n p x ∙ sym (first_is s n q y)) (second_is s n p x ∙ sym (second_is s n q y)) (third_is s n p x) (third_is s n q y) less)
     p vs
 
--- two tests are one after the other
-pub filter_both : (p q : Row → Bool) (rows : List Row) → filter (λ row. p row && q row) rows ≡ filter q (filter p rows)
-filter_both p q [] = refl
-filter_both p q (row ∷ rows) = by_case (p row) (filter_both p q rows)
-  where
-    by_case : (b : Bool) → filter (λ r. p r && q r) rows ≡ filter q (filter p rows) → cond (b && q row) (row ∷ filter (λ r. p r && q r) rows) (filter (λ r. p r && q r) rows) ≡ filter q (cond b (row ∷ filter p rows) (filter p rows))
-    by_case true e = ap (λ l. cond (q row) (row ∷ l) l) e
-    by_case false e = e
-
 module _ (o : Office) (b : Book) (db : Trees) (holds : HoldsBook o b db) (s : List ℕ) (n : ℕ) where
   told_numbered : (k : ℕ) → AllByRecursion (λ row. whole_number_at 1 row ≡ k) (told_by tells_verdict o b s k)
   told_numbered k = all_told (λ row. whole_number_at 1 row ≡ k) s k (numbered_so s k) 0 (transactions_of (transmission_in (unwrap_or (body_at b s k) []))) (verdicts_in o b s k)
 
-  all_append : (P : Row → Type 0) (xs ys : List Row) → AllByRecursion P xs → AllByRecursion P ys → AllByRecursion P (xs ++ ys)
-  all_append P [] ys x y = y
-  all_append P (r ∷ xs) ys x y = (x.0, all_append P xs ys x.1 y)
-
   formed_over : (q ns : List ℕ) → AllByRecursion HasKeyForm (flat_map (told_by tells_verdict o b q) ns)
-  formed_over q [] = tt
-  formed_over q (k ∷ ns) =
-      all_append HasKeyForm (told_by tells_verdict o b q k) (flat_map (told_by tells_verdict o b q) ns)
-      (all_told HasKeyForm q k (formed_so q k) 0 (transactions_of (transmission_in (unwrap_or (body_at b q k) []))) (verdicts_in o b q k))
-      (formed_over q ns)
-
-  keyed_so : (rows : List Row) → AllByRecursion HasKeyForm rows → AllByRecursion (λ row. has_key (Text s ∷ Int (pos n) ∷ []) row ≡ (is_named s row && is_numbered n row)) rows
-  keyed_so [] all = tt
-  keyed_so (row ∷ rows) all = (keyed s n row all.0 ∙ ap (λ x. x && n == whole_number_at 1 row) (either_way s (text_at 0 row)), keyed_so rows all.1)
+  formed_over q ns =
+      all-flat_map HasKeyForm (told_by tells_verdict o b q) ns
+      (all_of _ (λ k. all_told HasKeyForm q k (formed_so q k) 0 (transactions_of (transmission_in (unwrap_or (body_at b q k) []))) (verdicts_in o b q k)) ns)
 
   -- what is found are the sender's rows with the number
   found_numbered : (found : List Row) → Lists layout.verdicts (has_key (Text s ∷ Int (pos n) ∷ [])) 3 db found → IsPermutation (filter (is_numbered n) (told_to_front tells_verdict o b s)) found
   found_numbered found lists =
-      let rows = rows_in layout.verdicts db in
-      let formed = all_rows is_named (text_at 0) (λ r. (bytes_eq-Decides (text_at 0 r) (text_at 0 r)).1 refl) HasKeyForm (told_to_front tells_verdict o b) rows holds.derived.verdicts (λ q. formed_over q (line b q)) in
-      let same : filter (has_key (Text s ∷ Int (pos n) ∷ [])) rows ≡ filter (is_numbered n) (filter (is_named s) rows) =
-      filter_same (has_key (Text s ∷ Int (pos n) ∷ [])) (λ row. is_named s row && is_numbered n row) rows (keyed_so rows formed) ∙ filter_both (is_named s) (is_numbered n) rows in
-      IsPermutation-trans (filter (is_numbered n) (told_to_front tells_verdict o b s)) (filter (is_numbered n) (filter (is_named s) rows)) found
-      (IsPermutation-filter (is_numbered n) (told_to_front tells_verdict o b s) (filter (is_named s) rows) (holds.derived.verdicts s))
-      (subst (λ l. IsPermutation l found) same lists.rows)
+      found_among HasKeyForm is_named (text_at 0) (λ r. (bytes_eq-Decides (text_at 0 r) (text_at 0 r)).1 refl) s (has_key (Text s ∷ Int (pos n) ∷ [])) (is_numbered n)
+      (λ r form. keyed s n r form ∙ ap (λ x. x && n == whole_number_at 1 r) (either_way s (text_at 0 r)))
+      layout.verdicts (told_to_front tells_verdict o b) db found holds.derived.verdicts (λ q. formed_over q (line b q)) lists.rows
 
   -- what is found of a transmission's verdicts shows them
   pub verdicts_found : (found : List Row) → Lists layout.verdicts (has_key (Text s ∷ Int (pos n) ∷ [])) 3 db found → ShowVerdicts (cond (is_in_line b s n) (verdicts_in o b s n) []) found
@@ -136,14 +110,10 @@ verdict_back s n p (Rejected zero) y e = absurd (cc)
 verdict_back s n p (Rejected (suc fault)) y e =
     of_some (Rejected (suc fault)) y (e ∙ ap (λ (b : Bool). cond b (cond true None (Some (Accepted 0 0))) (Some (Rejected (suc fault)))) (one_or_more fault))
 
-all_so : (vs : List Verdict) → AllByRecursion (λ _. Unit {0}) vs
-all_so [] = tt
-all_so (v ∷ vs) = (tt, all_so vs)
-
 -- and so are all
 pub verdicts_back : (vs list : List Verdict) (rows : List Row) → ShowVerdicts vs rows → map Some list ≡ map verdict_in rows → list ≡ vs
 verdicts_back vs list rows shows e =
-    lines_back (verdict_row shows.0 shows.1) verdict_in (λ _. Unit {0}) (λ p x y _ h. verdict_back shows.0 shows.1 p x y h) 0 vs list (all_so vs) (e ∙ ap (map verdict_in) shows.2)
+    lines_back (verdict_row shows.0 shows.1) verdict_in (λ _. Unit {0}) (λ p x y _ h. verdict_back shows.0 shows.1 p x y h) 0 vs list (all_of (λ _. Unit {0}) (λ _. tt) vs) (e ∙ ap (map verdict_in) shows.2)
 
 -- what is listed of a number in the line is shown
 pub shown_in_line : (o : Office) (b : Book) (s : List ℕ) (n : ℕ) (list : List Verdict) → list ≡ cond (is_in_line b s n) (verdicts_in o b s n) [] → is_in_line b s n ≡ true → Some list ≡ shown_verdicts o b s n

@@ -65,6 +65,19 @@ says_judged Wrong old new row.Unread blames = blames
 says_judged Wrong old new row.Overflow blames = tt
 says_judged Wrong old new (row.Refused error) blames = absurd blames
 
+-- a fault that blames more
+pub blames_more : (First Wrong : Type 0) (fault : RowFault) → (First → Wrong) → Blames First fault → Blames Wrong fault
+blames_more First Wrong row.Memory also blames = tt
+blames_more First Wrong row.Schema also blames = also blames
+blames_more First Wrong row.Unread also blames = also blames
+blames_more First Wrong row.Overflow also blames = tt
+blames_more First Wrong (row.Refused error) also blames = blames
+
+-- so of an answer
+pub blames_where : {X : Type 0} (First Wrong : Type 0) (r : Result X RowFault) → IfErr r (Blames First) → (First → Wrong) → IfErr r (Blames Wrong)
+blames_where First Wrong (Ok x) blames also = tt
+blames_where First Wrong (Err fault) blames also = blames_more First Wrong fault also blames
+
 -- an error of a reading after others: what it blames is wrong by what these found
 pub errs_then : {X Y : Type 0} (Later Wrong : Trees → Type 0) (old mid new : State) (x : X) (r : Result Y RowFault) (A : Trees → X → Type 0) → Looks old mid (Ok x) A → Survives mid new (λ _. ⊥) → Errs Later mid new r → (A old.now.trees x → Later old.now.trees → Wrong old.now.trees) → Errs Wrong old new r
 errs_then {X} {Y} Later Wrong old mid new x r A first survives errs denies clean inside has =

@@ -1,15 +1,13 @@
-use Rattle.std.proofs.Common.{subst, sym}
 use Rattle.society_core.specs.Book.{order_at}
-use Rattle.society_book.specs.Shown.{ShowPool}
 use Rattle.society_book.proofs.lemmas.shown.CreditRows.{pool_found}
-use Rattle.society_book.proofs.lemmas.shown.QuestionLemmas.{by_book, then_asked}
+use Rattle.society_book.specs.Shown.{ShowPool}
+use Rattle.society_book.proofs.lemmas.shown.QuestionLemmas.{asked_shown}
 use Rattle.society_book.proofs.pools.is_closed.Goals as goal
 
 pub returns : goal.returns
 returns g c =
     record {
       asked =
-          then_asked _ _ _ c.shown_closed.result _ _ c.in_ok-rows.ensures.asked
-          (λ lists. by_book _ _ c.shown_closed.result (λ o b holds. c.shown_closed.ensures (order_at b c.args.pool)
-          (subst (ShowPool (order_at b c.args.pool)) (sym c.as_slice.ensures.value) (pool_found o b _ holds c.args.pool _ lists))));
+          asked_shown _ _ _ _ c.shown_closed.result _ ShowPool _ (λ _ b. order_at b c.args.pool) c.in_ok-rows.ensures.asked c.as_slice.ensures.value c.shown_closed.ensures
+          (λ o b holds lists. pool_found o b _ holds c.args.pool _ lists);
     }

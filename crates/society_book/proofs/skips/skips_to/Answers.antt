@@ -15,7 +15,7 @@ segments-preserved-in_ok-push c =
     let first = c.segments.first in
     let list = c.segments.skips.items in
     let next = c.in-Some.next in
-    let is : passed_to front (ends (segment_of first)) ≡ Some next = sym c.passed.ensures.value ∙ c.in-Some.is in
+    let is : passed_to front (ends (segment_of first)) ≡ Some next = sym c.rank_passed_to.ensures.value ∙ c.in-Some.is in
     let made : ℕ → Skip = λ a. record { above = a; below = next } in
     record {
       limit = c.in-Some.ensures.later.1;
@@ -28,7 +28,7 @@ pub segments-preserved : goal.segments-preserved
 segments-preserved c =
     let ends = end_listed c.args.ends.now in
     let next = c.in-Some.next in
-    let is : passed_to c.args.front (ends (segment_of c.segments.first)) ≡ Some next = sym c.passed.ensures.value ∙ c.in-Some.is in
+    let is : passed_to c.args.front (ends (segment_of c.segments.first)) ≡ Some next = sym c.rank_passed_to.ensures.value ∙ c.in-Some.is in
     record {
       limit = c.in-Some.ensures.later.1;
       so_far = λ right.
@@ -38,4 +38,4 @@ segments-preserved c =
 pub returns : goal.returns
 returns c = λ led.
     let right = c.see_years.ensures.right in
-    all_skipped (end_listed c.args.ends.now) right c.args.front c.segments.first c.segments.skips.items (c.segments.invariant.so_far right) led (sym c.passed.ensures.value ∙ c.in_default.is)
+    all_skipped (end_listed c.args.ends.now) right c.args.front c.segments.first c.segments.skips.items (c.segments.invariant.so_far right) led (sym c.rank_passed_to.ensures.value ∙ c.in_default.is)

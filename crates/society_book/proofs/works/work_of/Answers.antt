@@ -10,7 +10,7 @@ returns g c =
           let o = c.args.office.now in
           let s = c.args.sender.now in
           let w = c.args.work.now in
-          asked_then _ _ _ _ c.shown_at.result _ _ _ c.in_ok-version.ensures.asked c.shown_at.ensures.asked
+          asked_then _ _ _ _ c.work_of_version.result _ _ _ c.in_ok-version.ensures.asked c.work_of_version.ensures.asked
           (λ y found shown b holds. work_shown o b s w c.in-Some.version _ (sym c.in-Some.is ∙ found o b holds) (shown o b holds));
     }
 

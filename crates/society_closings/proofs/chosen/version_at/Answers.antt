@@ -3,14 +3,14 @@ use Rattle.std.specs.List.{AllByRecursion}
 use Rattle.std.specs.Prelude.{Vec}
 use Rattle.std.specs.declared.alloc.Global.{Global}
 use Rattle.society_book.proofs.lemmas.lines.LineRows.{back_by}
-use Rattle.society_book.proofs.lemmas.together.ErrLemmas.{errs_as, errs_of, errs_on}
+use Rattle.society_book.proofs.lemmas.together.ErrLemmas.{blames_where, errs_as, errs_of, errs_on}
 use Rattle.society_book.proofs.lemmas.together.StepLemmas.{looks_as, looks_of, more}
 use Rattle.society_book.specs.Shown.{version_shown}
 use Rattle.society_closings.proofs.lemmas.cuts.CutRows.{row_up_to, version_found}
-use Rattle.society_closings.proofs.lemmas.cuts.FaultLemmas.{blames_where, listed_hold}
+use Rattle.society_closings.proofs.lemmas.cuts.FaultLemmas.{listed_hold}
 use Rattle.society_closings.proofs.lemmas.cuts.ReadRows.{versions_readable}
 use Rattle.society_closings.specs.Blamed.{HoldNoWorks}
-use Rattle.society_closings.specs.Readable.{IsVersionRow}
+use Rattle.society_book.specs.Readable.{IsVersionRow}
 use Rattle.society_rows.specs.Layout as layout
 use Rattle.society_rows.specs.Reads.{has_key}
 use Rattle.sqlite.specs.Held.{state}

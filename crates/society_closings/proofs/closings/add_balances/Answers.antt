@@ -2,7 +2,7 @@ use Rattle.std.proofs.Common.{◌∙◌, List, Ok, arith, subst, sym, take, w64}
 use Rattle.std.proofs.lemmas.Int.{to_z-of_z}
 use Rattle.sqlite.specs.Held.{state}
 use Rattle.pool_split.specs.declared.claim.Credit.{Credit}
-use Rattle.society_book.specs.Shown.{AddsEach}
+use Rattle.society_closings.specs.Closings.{AddsEach}
 use Rattle.society_closings.proofs.lemmas.money.PoolWrites.{each_next, take_next}
 use Rattle.society_book.proofs.lemmas.together.StepLemmas.{does_of, does_then}
 use Rattle.society_closings.proofs.closings.add_balances.Goals as goal

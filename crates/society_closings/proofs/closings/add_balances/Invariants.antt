@@ -1,6 +1,6 @@
 use Rattle.std.proofs.Common.{◌≡◌, Ok, take}
 use Rattle.sqlite.specs.Held.{state}
-use Rattle.society_book.specs.Shown.{AddsEach}
+use Rattle.society_closings.specs.Closings.{AddsEach}
 use Rattle.society_book.specs.Steps.{Does}
 use Rattle.society_closings.proofs.closings.add_balances.Given as goal
 

@@ -3,15 +3,14 @@ use Rattle.std.specs.Prelude.{Vec}
 use Rattle.std.specs.declared.alloc.Global.{Global}
 use Rattle.cwr_files.specs.Contents.{transactions_of, transmission_in}
 use Rattle.society_book.proofs.lemmas.rows_alike.KeyRows.{transmission_shows_by}
-use Rattle.society_book.proofs.lemmas.together.ErrLemmas.{errs_as, errs_of, errs_on}
+use Rattle.society_book.proofs.lemmas.together.ErrLemmas.{blames_where, errs_as, errs_of, errs_on}
 use Rattle.society_book.proofs.lemmas.together.StepLemmas.{looks_as, looks_of, more}
 use Rattle.society_book.specs.Shown.{ShowBody}
 use Rattle.society_closings.proofs.lemmas.cuts.BodyRows.{transmission_shown}
 use Rattle.society_closings.proofs.lemmas.cuts.CutCandidates.{chosen_adds, shown_all}
-use Rattle.society_closings.proofs.lemmas.cuts.FaultLemmas.{blames_where}
 use Rattle.society_closings.specs.Blamed.{LackNumber}
 use Rattle.society_closings.specs.CutWorks.{works_chosen}
-use Rattle.society_closings.specs.Readable.{ShowTransmission}
+use Rattle.society_book.specs.Readable.{ShowTransmission}
 use Rattle.society_core.specs.Book.{body_at}
 use Rattle.society_core.specs.Candidates.{AddsCandidates}
 use Rattle.society_core.specs.Keys.{transmission_key}

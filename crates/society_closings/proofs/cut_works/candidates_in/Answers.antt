@@ -1,15 +1,14 @@
 use Rattle.std.proofs.Common.{◌≡◌, ◌∙◌, List, ℕ, ap, bytes_eq, sym, true}
-use Rattle.std.specs.List.{list_all, list_any}
+use Rattle.std.specs.List.{list_any}
 use Rattle.society_book.proofs.lemmas.together.ErrLemmas.{errs_where}
 use Rattle.society_book.proofs.lemmas.together.StepLemmas.{does_also}
 use Rattle.society_closings.proofs.lemmas.cuts.CutLists.{recordings_noted}
 use Rattle.society_closings.proofs.lemmas.cuts.CutNotes.{all_asked}
 use Rattle.society_closings.proofs.lemmas.cuts.FaultLemmas.{errs_memory}
 use Rattle.society_closings.specs.Blamed.{LackCut, LackSenders}
-use Rattle.society_closings.specs.CutWorks.{ListsWorks, NotesRecordings, is_of_cut, notes_of_sender, wants_for}
+use Rattle.society_closings.specs.CutWorks.{is_of_cut}
 use Rattle.society_core.specs.Points.{is_tallied}
 use Rattle.sqlite.specs.Held.{state}
-use Rattle.sqlite_trees.specs.Tree.{Trees}
 use Rattle.society_closings.proofs.cut_works.candidates_in.Goals as goal
 
 pub returns-clause-looks : goal.returns-clause-looks

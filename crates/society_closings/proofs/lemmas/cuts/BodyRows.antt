@@ -1,12 +1,13 @@
 -- The rows of the transmissions and of the returns that a sound book has can be read.
-use Rattle.std.proofs.Common.{◌≡◌, ◌∙◌, ◌<◌, ◌^◌, ◌&&◌, ℕ, pos, true, List, [], ◌∷◌, Option, Some, None, is_none, is_some, nat_le, refl, ap, arith}
-use Rattle.std.proofs.lemmas.Bool.{false≢true, leb-true}
+use Rattle.std.proofs.Common.{◌≡◌, ◌∙◌, ◌<◌, ◌^◌, ◌&&◌, ℕ, pos, true, List, [], ◌∷◌, is_none, is_some, nat_le, refl, ap, arith}
+use Rattle.std.proofs.lemmas.Bool.{leb-true}
 use Rattle.perf_returns.specs.Returns.{return_fault}
 use Rattle.society_book.proofs.lemmas.rows_alike.KeyRows.{return_listed, transmission_listed}
 use Rattle.society_book.specs.BookRows.{return_row, row_of_some, transmission_row}
 use Rattle.society_book.specs.Sources.{HoldsWorks}
 use Rattle.society_closings.proofs.lemmas.cuts.ReadRows.{line_key}
-use Rattle.society_closings.specs.Readable.{ShowReturn, ShowTransmission}
+use Rattle.society_closings.specs.Readable.{ShowReturn}
+use Rattle.society_book.specs.Readable.{ShowTransmission}
 use Rattle.society_core.proofs.lemmas.Books.{right_body, some_body}
 use Rattle.society_core.proofs.lemmas.Fronts.{first_holds, second_holds}
 use Rattle.society_core.proofs.lemmas.LineNumbers.{in_line_of_to, there_in_line}
@@ -21,10 +22,7 @@ use Rattle.sqlite_value.specs.Order.{Row}
 use Rattle.sqlite_value.specs.declared.value.Value.TheVariants.{Int, Text}
 use Rattle.work_ids.specs.Blanks.{fill, without_trailing_blanks}
 use Rattle.work_ids.specs.Numbers.{is_return_number}
-
-none_is : {X : Type 0} (o : Option X) → is_none o ≡ true → o ≡ None
-none_is None h = refl
-none_is (Some x) h = absurd (false≢true h)
+use Rattle.society_book.proofs.lemmas.rows_alike.EndRows.{no_fault}
 
 -- what is found of a number of a sender's line up to its cut can be read
 pub transmission_shown : (o : Office) (b : Book) (db : Trees) → HoldsWorks o b db → (s : List ℕ) (cut n : ℕ) → is_one_of (numbers_to b s cut) n ≡ true → (found shown : List Row) → Lists layout.transmissions (has_key (Text s ∷ Int (pos n) ∷ [])) 2 db found → shown ≡ found → ShowTransmission s shown
@@ -53,5 +51,5 @@ return_shown o b db holds key filled there found shown lists same =
       row = return_row key body.0;
       alone = same ∙ return_listed b db holds.kept.returns key filled found lists ∙ ap (row_of_some (return_row key)) body.1;
       formed = (refl, ((without_trailing_blanks key.reporter, refl), ((key.number, refl, small_number key.number numbered), ((body.0, refl), tt))));
-      right = none_is (return_fault body.0) (second_holds (is_reporter key.reporter && is_return_number key.number) (is_none (return_fault body.0)) entry);
+      right = no_fault (return_fault body.0) (second_holds (is_reporter key.reporter && is_return_number key.number) (is_none (return_fault body.0)) entry);
     }

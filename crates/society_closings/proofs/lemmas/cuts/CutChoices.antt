@@ -12,17 +12,11 @@ use Rattle.society_closings.specs.declared.chosen.Chosen.{Chosen}
 use Rattle.society_book.proofs.lemmas.rows_alike.KeyRows.{either_way}
 use Rattle.std.specs.Cmp.{unsigned_Decides}
 use Rattle.works_core.specs.declared.version.WorkVersion.{WorkVersion}
+use Rattle.std.proofs.lemmas.Bool.{or_right}
+use Rattle.society_book.proofs.lemmas.shown.Skips.{last_false}
 
 pub some_is : {X : Type 0} (x y : X) → ◌≡◌ {A = Option X} (Some x) (Some y) → x ≡ y
 some_is x y e = cc
-
-pub or_true : (b : Bool) → (b || true) ≡ true
-or_true true = refl
-or_true false = refl
-
-or_false : (b : Bool) → (b || false) ≡ b
-or_false true = refl
-or_false false = refl
 
 module _ (office : Office) (book : Book) (key : TransmissionKey) (known : List ℕ → Bool) (work : List ℕ) where
   -- by another test of the same works
@@ -44,15 +38,15 @@ module _ (office : Office) (book : Book) (key : TransmissionKey) (known : List �
       by_case : (q : List ℕ) (e : Bool) → bytes_eq work q ≡ e → cond e (Some version) (chosen_at old q) ≡ cond (known q || e) (version_in office book key.sender q key.number) None
       by_case q true is =
           some ∙ ap (λ (x : List ℕ). version_in office book key.sender x key.number) ((bytes_eq-Decides work q).0 is)
-          ∙ ap (λ (b : Bool). cond b (version_in office book key.sender q key.number) None) (sym (or_true (known q)))
-      by_case q false is = chooses.versions q ∙ ap (λ (b : Bool). cond b (version_in office book key.sender q key.number) None) (sym (or_false (known q)))
+          ∙ ap (λ (b : Bool). cond b (version_in office book key.sender q key.number) None) (sym (or_right (known q) true refl))
+      by_case q false is = chooses.versions q ∙ ap (λ (b : Bool). cond b (version_in office book key.sender q key.number) None) (sym (last_false (known q)))
 
       by_number : (q : List ℕ) (v : WorkVersion) (e : Bool) → cond e (Some version) (chosen_at old q) ≡ Some v → contains nat_cmp new.transmissions v.transmission ≡ true
       by_number q v true is =
           let same : version ≡ v = some_is version v is in
           covers v.transmission ∙ ap (λ (b : Bool). b || contains nat_cmp old.transmissions v.transmission) ((unsigned_Decides version.transmission v.transmission).1 (ap (λ (u : WorkVersion). u.transmission) same))
       by_number q v false is =
-          covers v.transmission ∙ ap (λ (b : Bool). version.transmission == v.transmission || b) (chooses.transmissions q v is) ∙ or_true (version.transmission == v.transmission)
+          covers v.transmission ∙ ap (λ (b : Bool). version.transmission == v.transmission || b) (chooses.transmissions q v is) ∙ or_right (version.transmission == v.transmission) true refl
 
       by_member : (n : ℕ) (c : Bool) → (version.transmission == n) ≡ c → (c || contains nat_cmp old.transmissions n) ≡ true → is_one_of (numbers_to book key.sender key.number) n ≡ true
       by_member n true is there =

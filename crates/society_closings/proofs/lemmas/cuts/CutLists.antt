@@ -2,19 +2,18 @@
 use Rattle.std.proofs.Common.{◌≡◌, ◌∙◌, ◌||◌, ◌&&◌, ◌++◌, Bool, Option, Some, None, Ok, Result, Err, OnOk, Vec, append-nil, is_some, true, false, cond, eqb, ℕ, List, [], ◌∷◌, ap, ap₂, refl, sym, subst, filter, length, take, bytes_eq, arith}
 use Rattle.std.proofs.lemmas.Bool.Decides.{nat_tests}
 use Rattle.std.proofs.lemmas.Map.Text.{is_eq-slice_cmp}
-use Rattle.std.specs.List.{list_all}
+use Rattle.std.specs.List.{list_all, AllByRecursion, list_any}
 use Rattle.std.specs.BTreeMap as tree
 use Rattle.std.specs.Ordering.{eq_by_cmp}
 use Rattle.std.specs.declared.alloc.Global.{Global}
 use Rattle.society_rows.specs.declared.fault.RowFault.{RowFault}
 use Rattle.work_ids.specs.Blanks.{is_blank_byte}
 use Rattle.work_ids.specs.Characters.{is_capital}
-use Rattle.std.proofs.lemmas.Bool.{false≢true}
+use Rattle.std.proofs.lemmas.Bool.{false≢true, and_from, or_left, or_right}
 use Rattle.std.proofs.lemmas.List.Folds.{list_any-append}
 use Rattle.std.proofs.lemmas.List.Sorted.{IsPermutation-sym}
 use Rattle.std.proofs.lemmas.Slice.Eq.{bytes_eq-Decides}
 use Rattle.std.specs.BTreeSet.{BTreeSet, contains}
-use Rattle.std.specs.List.{AllByRecursion, list_any}
 use Rattle.society_core.proofs.lemmas.Fronts.{first_holds, second_holds}
 use Rattle.perf_returns.specs.declared.performance.Performance.{Performance}
 use Rattle.share_rules.specs.declared.office.Office.{Office}
@@ -30,13 +29,13 @@ use Rattle.society_rows.specs.Layout as layout
 use Rattle.society_rows.specs.Reads.{Lists, has_at, has_key}
 use Rattle.society_rows.specs.Stored.{rows_in}
 use Rattle.society_rows.proofs.lemmas.readings.KeyEquality.{text_decides}
-use Rattle.society_closings.proofs.lemmas.cuts.CutNotes.{or_later, all_listed_still}
+use Rattle.society_closings.proofs.lemmas.cuts.CutNotes.{all_listed_still}
 use Rattle.society_closings.specs.CutWorks.{IsListed, IsNoted, ListsMore, ListsRow, ListsSender, ListsWorks, NotesListed, NotesMore, NotesRecordings, Wants, is_listed, is_noted, is_of_cut, items_or_none, listed_at, notes_of_sender, wants, wants_for, works_listed}
 use Rattle.society_book.specs.Columns.{text_at, text_of}
 use Rattle.society_closings.specs.declared.named_works.NamedWorks.{NamedWorks}
 use Rattle.society_closings.specs.declared.wanted.Wanted.{Wanted}
 use Rattle.society_closings.specs.declared.works_by_recording.WorksByRecording.{WorksByRecording}
-use Rattle.sqlite_rules.proofs.ListLemmas.{all_from}
+use Rattle.sqlite_rules.proofs.ListLemmas.{all_from, all_has, some_has}
 use Rattle.sqlite_schema.specs.Rules.{equal}
 use Rattle.sqlite_trees.proofs.ListLemmas.{all-permutation, all_both, all_weaker}
 use Rattle.sqlite_trees.specs.Tree.{Trees}
@@ -46,10 +45,9 @@ use Rattle.sqlite_value.specs.declared.value.Value.{Value}
 use Rattle.sqlite_value.specs.declared.value.Value.TheVariants.{Blob, Int, Null, Real, Text}
 use Rattle.work_ids.specs.Isrc.{has_isrc_form, is_isrc, isrc_field_of, isrc_of}
 use Rattle.work_ids.specs.SenderKey.{is_sender_key}
-
-or_first : (b c : Bool) → b ≡ true → (b || c) ≡ true
-or_first true c e = refl
-or_first false c e = absurd (false≢true e)
+use Rattle.sqlite_keyed.proofs.ListLemmas.{all_kept}
+use Rattle.society_book.proofs.lemmas.rows_alike.KeyRows.{either_way}
+use Rattle.society_book.proofs.lemmas.rows_alike.RowLemmas.{any_same}
 
 -- more, and more again
 pub lists_then : (old mid new : WorksByRecording) → ListsMore old mid → ListsMore mid new → ListsMore old new
@@ -61,15 +59,6 @@ row_still wanted old new more row lists isrc right is at = more isrc _ _ (lists 
 
 pub rows_still : (wanted : BTreeSet (List ℕ)) (old new : WorksByRecording) → ListsMore old new → (rows : List Row) → AllByRecursion (ListsRow wanted old) rows → AllByRecursion (ListsRow wanted new) rows
 rows_still wanted old new more rows all = all_weaker (ListsRow wanted old) (ListsRow wanted new) (row_still wanted old new more) rows all
-
--- what holds of the rows that pass holds of each row that passes
-all_passing : (p : Row → Bool) (P : Row → Type 0) (rows : List Row) → AllByRecursion P (filter p rows) → AllByRecursion (λ row. p row ≡ true → P row) rows
-all_passing p P [] all = tt
-all_passing p P (row ∷ rows) all = by_case (p row) refl all (all_passing p P rows)
-  where
-    by_case : (c : Bool) → p row ≡ c → AllByRecursion P (cond c (row ∷ filter p rows) (filter p rows)) → (AllByRecursion P (filter p rows) → AllByRecursion (λ r. p r ≡ true → P r) rows) → (p row ≡ true → P row) × AllByRecursion (λ r. p r ≡ true → P r) rows
-    by_case true e here later = ((λ is. here.0), later here.1)
-    by_case false e here later = ((λ is. absurd (false≢true (sym e ∙ is))), later here)
 
 -- a row that begins with the text of a sender is one of the sender's, as SQL finds them
 key_of_sender : (s : List ℕ) (row : Row) → is_sender_key s ≡ true → bytes_eq s (text_at 0 row) ≡ true → has_key (Text s ∷ []) row ≡ true
@@ -90,7 +79,7 @@ pub sender_listed : (wanted : BTreeSet (List ℕ)) (works : WorksByRecording) (s
 sender_listed wanted works s db found shown key lists same all =
     let rows = rows_in layout.recordings db in
     let passes = has_key (Text s ∷ []) in
-    let each = all_passing passes (ListsRow wanted works) rows (all-permutation (ListsRow wanted works) found (filter passes rows) (IsPermutation-sym (filter passes rows) found lists.rows) (subst (AllByRecursion (ListsRow wanted works)) same all)) in
+    let each = all_kept (ListsRow wanted works) passes rows (all-permutation (ListsRow wanted works) found (filter passes rows) (IsPermutation-sym (filter passes rows) found lists.rows) (subst (AllByRecursion (ListsRow wanted works)) same all)) in
     all_weaker (λ row. passes row ≡ true → ListsRow wanted works row) (λ row. bytes_eq s (text_at 0 row) ≡ true → ListsRow wanted works row) (λ row lists is. lists (key_of_sender s row key is)) rows each
 
 -- of no sender
@@ -108,18 +97,8 @@ one_sender_more wanted old new s before after db next more =
     by_case row was is false here asked = is asked
 
 -- bytes that are among some, compared the other way round
-pub bytes_turned : (x y : List ℕ) → bytes_eq x y ≡ bytes_eq y x
-bytes_turned x y = by_case (bytes_eq x y) refl (bytes_eq y x) refl
-  where
-    by_case : (a : Bool) → bytes_eq x y ≡ a → (b : Bool) → bytes_eq y x ≡ b → a ≡ b
-    by_case true e true f = refl
-    by_case false e false f = refl
-    by_case true e false f = absurd (false≢true (sym f ∙ (bytes_eq-Decides y x).1 (sym ((bytes_eq-Decides x y).0 e))))
-    by_case false e true f = absurd (false≢true (sym e ∙ (bytes_eq-Decides x y).1 (sym ((bytes_eq-Decides y x).0 f))))
-
 pub among_turned : (x : List ℕ) (xs : List (List ℕ)) → list_any (λ y. bytes_eq y x) xs ≡ list_any (bytes_eq x) xs
-among_turned x [] = refl
-among_turned x (y ∷ xs) = ap₂ (λ (a b : Bool). a || b) (bytes_turned y x) (among_turned x xs)
+among_turned x xs = any_same (λ y. bytes_eq y x) (bytes_eq x) (λ y. either_way y x) xs
 
 -- once the rows of all senders were gone over that are looked for, their works are listed under the recordings that are
 pub all_senders_listed : (wanted : Wanted) (works : WorksByRecording) (senders : List ℕ → Bool) (db : Trees) → ((s : List ℕ) → contains bytes_cmp wanted.senders s ≡ true → senders s ≡ true) → ListsSender senders wanted.recordings works db → ListsWorks (wants wanted) db works
@@ -135,15 +114,13 @@ lists_fewer many few db works fewer lists isrc right =
 
 -- a work that is listed is noted, where all that are listed are
 noted_among : (named : NamedWorks) (s w : List ℕ) (works : List (List ℕ × List ℕ)) → NotesListed works named → list_any (λ one. bytes_eq one.0 s && bytes_eq one.1 w) works ≡ true → notes_of_sender named s ≡ true → is_noted named s w ≡ true
-noted_among named s w [] all any asked = absurd (false≢true any)
-noted_among named s w (one ∷ works) all any asked = by_case (bytes_eq one.0 s && bytes_eq one.1 w) refl any (λ later. noted_among named s w works all.1 later asked)
-  where
-    by_case : (c : Bool) → (bytes_eq one.0 s && bytes_eq one.1 w) ≡ c → (c || list_any (λ x. bytes_eq x.0 s && bytes_eq x.1 w) works) ≡ true → (list_any (λ x. bytes_eq x.0 s && bytes_eq x.1 w) works ≡ true → is_noted named s w ≡ true) → is_noted named s w ≡ true
-    by_case false apart later rest = rest later
-    by_case true same here rest =
-        let sender : one.0 ≡ s = (bytes_eq-Decides one.0 s).0 (first_holds _ _ same) in
-        let work : one.1 ≡ w = (bytes_eq-Decides one.1 w).0 (second_holds (bytes_eq one.0 s) _ same) in
-        subst (λ (x : List ℕ). is_noted named s x ≡ true) work (subst (λ (x : List ℕ). is_noted named x one.1 ≡ true) sender (all.0 (subst (λ (x : List ℕ). notes_of_sender named x ≡ true) (sym sender) asked)))
+noted_among named s w works all any asked =
+    let found = some_has (λ (one : List ℕ × List ℕ). bytes_eq one.0 s && bytes_eq one.1 w) works any in
+    let one = found.0 in
+    let sender : one.0 ≡ s = (bytes_eq-Decides one.0 s).0 (first_holds (bytes_eq one.0 s) (bytes_eq one.1 w) found.2) in
+    let work : one.1 ≡ w = (bytes_eq-Decides one.1 w).0 (second_holds (bytes_eq one.0 s) (bytes_eq one.1 w) found.2) in
+    let noted = all_has (λ (x : List ℕ × List ℕ). notes_of_sender named x.0 ≡ true → is_noted named x.0 x.1 ≡ true) works one all found.1 in
+    subst (λ (x : List ℕ). is_noted named s x ≡ true) work (subst (λ (x : List ℕ). is_noted named x one.1 ≡ true) sender (noted (subst (λ (x : List ℕ). notes_of_sender named x ≡ true) (sym sender) asked)))
 
 -- what is listed under one recording more is noted
 pub one_recording_more : (works : WorksByRecording) (old new : NamedWorks) (isrc : List ℕ) (before after : List ℕ → Bool) → ((q : List ℕ) → after q ≡ (before q || bytes_eq q isrc)) → NotesMore old new → is_isrc isrc ≡ true → NotesListed (works_listed works isrc) new
@@ -160,11 +137,7 @@ pub recordings_noted : (cut : List TransmissionKey) (of_these : List ℕ → Boo
 recordings_noted cut of_these db works named lists senders notes isrc is =
     let its = notes isrc is in
     all_weaker (λ row. wants_for cut of_these (text_at 0 row) isrc ≡ true → has_at 3 (Text isrc) row ≡ true → IsListed works isrc row) (λ row. has_at 3 (Text isrc) row ≡ true → IsNoted named row)
-    (λ row listed at asked. noted_among named (text_at 0 row) _ (works_listed works isrc) its.1 (listed (both_hold (is_of_cut cut (text_at 0 row)) (of_these isrc) (sym (senders (text_at 0 row)) ∙ asked) is) at) asked) (rows_in layout.recordings db) (lists isrc its.0)
-  where
-    both_hold : (a b : Bool) → a ≡ true → b ≡ true → (a && b) ≡ true
-    both_hold true b one two = two
-    both_hold false b one two = one
+    (λ row listed at asked. noted_among named (text_at 0 row) _ (works_listed works isrc) its.1 (listed (and_from (is_of_cut cut (text_at 0 row)) (of_these isrc) (sym (senders (text_at 0 row)) ∙ asked) is) at) asked) (rows_in layout.recordings db) (lists isrc its.0)
 
 -- ---- what is listed
 
@@ -182,7 +155,7 @@ module _ (old new : WorksByRecording) (isrc s w : List ℕ) (adds : (q : List �
   pub list_more : ListsMore old new
   list_more q sender work listed =
       let is_it = λ (one : List ℕ × List ℕ). bytes_eq one.0 sender && bytes_eq one.1 work in
-      ap (list_any is_it) (adds q) ∙ list_any-append is_it (works_listed old q) (listed_at q isrc (s, w)) ∙ or_first (list_any is_it (works_listed old q)) (list_any is_it (listed_at q isrc (s, w))) listed
+      ap (list_any is_it) (adds q) ∙ list_any-append is_it (works_listed old q) (listed_at q isrc (s, w)) ∙ or_left (list_any is_it (works_listed old q)) (list_any is_it (listed_at q isrc (s, w))) listed
 
   -- it is that work
   pub list_here : is_listed new isrc s w ≡ true
@@ -190,7 +163,7 @@ module _ (old new : WorksByRecording) (isrc s w : List ℕ) (adds : (q : List �
       let itself = λ (x : List ℕ). (bytes_eq-Decides x x).1 refl in
       let is_it = λ (one : List ℕ × List ℕ). bytes_eq one.0 s && bytes_eq one.1 w in
       ap (list_any is_it) (adds isrc) ∙ list_any-append is_it (works_listed old isrc) (listed_at isrc isrc (s, w))
-      ∙ or_later (list_any is_it (works_listed old isrc)) (list_any is_it (listed_at isrc isrc (s, w)))
+      ∙ or_right (list_any is_it (works_listed old isrc)) (list_any is_it (listed_at isrc isrc (s, w)))
       (ap (λ (b : Bool). list_any is_it (cond b ((s, w) ∷ []) [])) (is_eq-slice_cmp isrc isrc ∙ itself isrc) ∙ ap₂ (λ (a b : Bool). (a && b) || false) (itself s) (itself w))
 
 -- an ISRC is what a field has that holds it

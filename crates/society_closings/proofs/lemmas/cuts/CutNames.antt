@@ -1,7 +1,6 @@
 -- A version at a cut that names a recording is told in the table of recordings, so its work is noted.
-use Rattle.std.proofs.Common.{◌≡◌, ◌∙◌, ◌⊎◌, inl, inr, ◌<◌, ◌+◌, ◌++◌, ◌==◌, ℕ, suc, zero, pos, Bool, true, false, cond, List, [], ◌∷◌, Option, Some, None, Result, Ok, Err, refl, ap, ◌||◌, sym, subst, arith, filter, map, append-nil, append_assoc, bytes_eq, nat_le, slice_get}
-use Rattle.std.proofs.lemmas.Bool.{false≢true}
-use Rattle.std.proofs.lemmas.Bool.Decides.{nat_tests}
+use Rattle.std.proofs.Common.{◌≡◌, ◌∙◌, ◌⊎◌, inl, inr, ◌+◌, ◌++◌, ◌==◌, ℕ, suc, zero, pos, Bool, true, false, cond, List, [], ◌∷◌, Option, Some, None, Result, Ok, Err, refl, ap, ◌||◌, sym, subst, arith, filter, map, append-nil, append_assoc, bytes_eq, nat_le, slice_get}
+use Rattle.std.proofs.lemmas.Bool.{false≢true, leb-false}
 use Rattle.std.specs.Cmp.{unsigned_Decides}
 use Rattle.std.proofs.lemmas.List.Sorted.{IsPermutation-sym}
 use Rattle.std.proofs.lemmas.Cmp.{nat_list_cmp_total}
@@ -34,7 +33,7 @@ use Rattle.society_closings.specs.declared.chosen.Chosen.{Chosen}
 use Rattle.society_closings.specs.declared.named_works.NamedWorks.{NamedWorks}
 use Rattle.society_closings.proofs.lemmas.cuts.CutChoices.{some_is}
 use Rattle.society_closings.proofs.lemmas.cuts.CutNotes.{any_bytes}
-use Rattle.society_book.proofs.lemmas.rows_alike.Equals.{texts_equal}
+use Rattle.society_rows.proofs.lemmas.readings.KeyEquality.{text_equal}
 use Rattle.society_book.proofs.lemmas.lines.LineRows.{filled_of, cut_line, left_once, line_goes, number_back, placed_over, sent, verdicts_go}
 use Rattle.sqlite_trees.proofs.ListLemmas.{all-filter, all-permutation}
 use Rattle.sqlite_trees.specs.Tree.{Trees}
@@ -52,6 +51,8 @@ use Rattle.works_core.specs.declared.judged.Judged.{Judged}
 use Rattle.works_core.specs.declared.verdict.Verdict.{Verdict}
 use Rattle.works_core.specs.declared.verdict.Verdict.TheVariants.{Accepted, Rejected}
 use Rattle.works_core.specs.declared.version.WorkVersion.{WorkVersion}
+use Rattle.sqlite_rules.proofs.ListLemmas.{all_has, some_has}
+use Rattle.sqlite_keyed.proofs.ListLemmas.{all_unmap}
 
 -- ---- a version stands at an accepted transaction
 
@@ -143,13 +144,10 @@ module _ (o : Office) (w : List ℕ) (v : WorkVersion) where
     cut_apart low high cut [] rise = ([], refl)
     cut_apart low high cut (n ∷ ns) rise = by_case (nat_le n cut) refl (cut_apart n high cut ns rise.1)
       where
-        below_of : (a c : ℕ) → nat_le a c ≡ false → c < a
-        below_of a c h = grind (arith, nat_tests)
-
         by_case : (c : Bool) → nat_le n cut ≡ c → (rest : List ℕ) × (ns ≡ filter (λ m. nat_le m cut) ns ++ rest) → (rest : List ℕ) × (n ∷ ns ≡ cond c (n ∷ filter (λ m. nat_le m cut) ns) (filter (λ m. nat_le m cut) ns) ++ rest)
         by_case true le later = (later.0, ap (λ (l : List ℕ). n ∷ l) later.1)
         by_case false le later =
-            let past = below_of n cut le in
+            let past = leb-false n cut le in
             (n ∷ ns, sym (ap (λ (l : List ℕ). l ++ n ∷ ns) (none_up_to n high cut ns rise.1 (omega (arith, past)))))
 
     last_told : (cut : ℕ) → last_version w (placed_line (line_to o b s cut)) ≡ Some v → Told
@@ -195,12 +193,9 @@ module _ (P : Row → Type 0) where
       all_at_place s n (p + 1) xs vs k t ordinal revision (all_second P (tells_recordings s n p x v) (told_from tells_recordings s n (p + 1) xs vs) all) there verdict
 
   all_named : (f : List ℕ → Row) (isrc : List ℕ) (listed : List (List ℕ)) → AllByRecursion P (map f listed) → list_any (bytes_eq isrc) listed ≡ true → P (f isrc)
-  all_named f isrc [] all e = absurd (false≢true e)
-  all_named f isrc (i ∷ listed) all e = by_case (bytes_eq isrc i) refl e (all_named f isrc listed all.1)
-    where
-      by_case : (c : Bool) → bytes_eq isrc i ≡ c → (c || list_any (bytes_eq isrc) listed) ≡ true → (list_any (bytes_eq isrc) listed ≡ true → P (f isrc)) → P (f isrc)
-      by_case true same h later = subst (λ (x : List ℕ). P (f x)) (sym ((bytes_eq-Decides isrc i).0 same)) all.0
-      by_case false apart h later = later h
+  all_named f isrc listed all e =
+      let found = some_has (bytes_eq isrc) listed e in
+      subst (λ (x : List ℕ). P (f x)) (sym ((bytes_eq-Decides isrc found.0).0 found.2)) (all_has (λ x. P (f x)) listed found.0 (all_unmap P f listed all) found.1)
 
 -- an ISRC that is named is among those in order
 still_named : (isrc : List ℕ) (named : List (List ℕ)) → list_any (bytes_eq isrc) named ≡ true → list_any (bytes_eq isrc) (ascending bytes_cmp named) ≡ true
@@ -232,7 +227,7 @@ module _ (o : Office) (b : Book) (db : Trees) (holds : HoldsWorks o b db) (s : L
           let its = all_at_place P s v.transmission 0 (transactions_sent b s v.transmission) (verdicts_in o b s v.transmission) v.place told.transaction told.ordinal told.revision all told.there told.verdict in
           let of_t : AllByRecursion P (map (λ i. Text s ∷ Text (work_text t) ∷ Int (pos told.revision) ∷ Text i ∷ []) (ascending bytes_cmp (isrcs_of t))) = subst (λ (x : Transaction). AllByRecursion P (map (λ i. Text s ∷ Text (work_text x) ∷ Int (pos told.revision) ∷ Text i ∷ []) (ascending bytes_cmp (isrcs_of x)))) same its in
           let one = all_named P (λ i. Text s ∷ Text (work_text t) ∷ Int (pos told.revision) ∷ Text i ∷ []) isrc (ascending bytes_cmp (isrcs_of t)) of_t (still_named isrc (isrcs_of t) named_by) in
-          let noted = one (texts_equal isrc isrc ∙ (bytes_eq-Decides isrc isrc).1 refl) asked in
+          let noted = one (text_equal isrc isrc ∙ (bytes_eq-Decides isrc isrc).1 refl) asked in
           let filled : filled_number t ≡ w = filled_of w (submitter_number (first_work t.records)) spelt in
           let number_is : fill 14 (without_trailing_blanks (work_text t)) ≡ w = ap (fill 14) (left_once (filled_number t)) ∙ number_back t ∙ filled in
           ap (is_noted named s) (sym number_is) ∙ noted

@@ -11,6 +11,8 @@ use Rattle.society_core.specs.declared.transmission_key.TransmissionKey.{Transmi
 use Rattle.society_closings.specs.CutWorks.{NotesListed, NotesMore, has_work, is_noted, notes_of_sender}
 use Rattle.society_closings.specs.declared.named_works.NamedWorks.{NamedWorks}
 use Rattle.sqlite_trees.proofs.ListLemmas.{all_weaker}
+use Rattle.std.proofs.lemmas.Bool.{or_right}
+use Rattle.society_book.proofs.lemmas.rows_alike.RowLemmas.{any_same}
 
 -- more notes, and more again
 pub notes_then : (old mid new : NamedWorks) → NotesMore old mid → NotesMore mid new → NotesMore old new
@@ -26,20 +28,14 @@ all_listed_still old new more works all =
 
 -- bytes are among some as keys where they are among them
 pub any_bytes : (x : List ℕ) (xs : List (List ℕ)) → list_any (bytes_eq x) xs ≡ list_any (eq_by_cmp bytes_cmp x) xs
-any_bytes x [] = refl
-any_bytes x (y ∷ ys) = ap₂ (λ (a b : Bool). a || b) (sym (is_eq-slice_cmp x y)) (any_bytes x ys)
-
--- a choice of two that ends with one that holds
-pub or_later : (b c : Bool) → c ≡ true → (b || c) ≡ true
-or_later true c e = refl
-or_later false c e = e
+any_bytes x xs = any_same (bytes_eq x) (eq_by_cmp bytes_cmp x) (λ y. sym (is_eq-slice_cmp x y)) xs
 
 -- works of each sender of a cut are noted where those of all senders are that it names
 pub all_asked : (named : NamedWorks) (cut : List TransmissionKey) → ((sender : List ℕ) → list_any (λ key. bytes_eq key.sender sender) cut ≡ true → notes_of_sender named sender ≡ true) → list_all (λ key. notes_of_sender named key.sender) cut ≡ true
 all_asked named [] asked = refl
 all_asked named (key ∷ cut) asked =
     let here : notes_of_sender named key.sender ≡ true = asked key.sender (ap (λ (b : Bool). b || list_any (λ k. bytes_eq k.sender key.sender) cut) ((bytes_eq-Decides key.sender key.sender).1 refl)) in
-    ap₂ (λ (a b : Bool). a && b) here (all_asked named cut (λ s h. asked s (or_later (bytes_eq key.sender s) (list_any (λ k. bytes_eq k.sender s) cut) h)))
+    ap₂ (λ (a b : Bool). a && b) here (all_asked named cut (λ s h. asked s (or_right (bytes_eq key.sender s) (list_any (λ k. bytes_eq k.sender s) cut) h)))
 
 module _ (old new : NamedWorks) (s w : List ℕ) (before after : BTreeSet (List ℕ)) (was : tree.get bytes_cmp old.by_sender s ≡ Some before) (put : (q : List ℕ) → tree.get bytes_cmp new.by_sender q ≡ cond (eq_by_cmp bytes_cmp s q) (Some after) (tree.get bytes_cmp old.by_sender q)) (added : (x : List ℕ) → contains bytes_cmp after x ≡ cond (eq_by_cmp bytes_cmp w x) true (contains bytes_cmp before x)) where
   found : (q : List ℕ) → eq_by_cmp bytes_cmp s q ≡ true → tree.get bytes_cmp old.by_sender q ≡ Some before

@@ -3,7 +3,6 @@ use Rattle.std.proofs.Common.{◌≡◌, ◌∙◌, ◌<◌, ◌≤◌, ◌+◌,
 use Rattle.std.proofs.lemmas.Bool.Decides.{nat_tests}
 use Rattle.std.proofs.lemmas.List.{append-nil, reverse-append}
 use Rattle.std.proofs.lemmas.List.Elements.{filter-append}
-use Rattle.std.proofs.lemmas.List.Sorted.{IsPermutation-trans}
 use Rattle.std.proofs.lemmas.Slice.Eq.{bytes_eq-Decides}
 use Rattle.std.specs.List.{AllByRecursion}
 use Rattle.share_rules.specs.declared.office.Office.{Office}
@@ -14,18 +13,16 @@ use Rattle.society_core.specs.Book.{Book, ends_of, front, line, version_in}
 use Rattle.society_core.proofs.lemmas.Lines.{line_over, over_rises, over_up_to}
 use Rattle.society_rows.specs.Layout as layout
 use Rattle.society_rows.specs.Reads.{Lists, has_key}
-use Rattle.society_rows.specs.Stored.{rows_in}
 use Rattle.society_book.specs.Columns.{whole_number_at, text_at}
 use Rattle.society_book.specs.DerivedRows.{is_named, tells_version, told_to_front}
 use Rattle.society_book.specs.Sources.{HoldsWorks}
 use Rattle.society_book.specs.Shown.{version_shown}
-use Rattle.society_book.proofs.lemmas.lines.LineRows.{HasBack, HasTexts, IsBack, all_tested, cut_line, is_of_work, line_back, one_by, placed_over, texts_told, told_line, version_row, version_rows, version_told}
-use Rattle.society_book.proofs.lemmas.rows_alike.RowLemmas.{all_rows}
+use Rattle.society_book.proofs.lemmas.lines.LineRows.{HasBack, HasTexts, IsBack, cut_line, is_of_work, line_back, one_by, placed_over, tested, texts_told, told_line, version_row, version_rows, version_told}
+use Rattle.society_book.proofs.lemmas.rows_alike.RowLemmas.{found_among}
 use Rattle.society_book.proofs.lemmas.rows_alike.SortedRows.{one_order, rises_third}
-use Rattle.society_book.proofs.lemmas.shown.VerdictRows.{filter_both}
-use Rattle.sqlite_keyed.proofs.ListLemmas.{IsPermutation-filter, all-append, ascending-append}
+use Rattle.sqlite_keyed.proofs.ListLemmas.{all-append, ascending-append}
 use Rattle.sqlite_sql.specs.Query.{key_cmp}
-use Rattle.sqlite_trees.proofs.ListLemmas.{all_weaker, filter_same}
+use Rattle.sqlite_trees.proofs.ListLemmas.{all_weaker}
 use Rattle.sqlite_trees.specs.Tree.{IsAscending, Trees}
 use Rattle.sqlite_value.specs.Keys.{rising}
 use Rattle.sqlite_value.specs.Order.{Row}
@@ -126,17 +123,11 @@ rows_found : (o : Office) (b : Book) (db : Trees) → HoldsWorks o b db → (s w
     found ≡ rising_rows s w (placed_over o b s (line b s))
 rows_found o b db holds s w back found lists =
     let whole = placed_over o b s (line b s) in
-    let rows = rows_in layout.versions db in
-    let passes = has_key (Text s ∷ Text (without_trailing_blanks w) ∷ []) in
-    let texts = all_rows is_named (text_at 0) (λ r. (bytes_eq-Decides (text_at 0 r) (text_at 0 r)).1 refl) HasTexts (told_to_front tells_version o b) rows holds.derived.versions (λ q. texts_told o b q (sound_order b holds.sound q).right) in
-    let same : filter passes rows ≡ filter (is_of_work w) (filter (is_named s) rows) =
-    filter_same passes (λ row. is_named s row && is_of_work w row) rows (all_tested s w rows texts) ∙ filter_both (is_named s) (is_of_work w) rows in
     let told : filter (is_of_work w) (told_to_front tells_version o b s) ≡ rising_rows s w whole = ap (filter (is_of_work w)) (told_line o b s (sound_order b holds.sound s).right) ∙ rows_rising s w back whole (line_back o b s (line b s)) in
-    let these = IsPermutation-filter (is_of_work w) (told_to_front tells_version o b s) (filter (is_named s) rows) (holds.derived.versions s) in
     one_order 3 (rising_rows s w whole) found (work_rises s w whole)
-    (IsPermutation-trans (rising_rows s w whole) (filter (is_of_work w) (filter (is_named s) rows)) found
-    (subst (λ l. IsPermutation l (filter (is_of_work w) (filter (is_named s) rows))) told these)
-    (subst (λ l. IsPermutation l found) same lists.rows))
+    (subst (λ l. IsPermutation l found) told
+    (found_among HasTexts is_named (text_at 0) (λ r. (bytes_eq-Decides (text_at 0 r) (text_at 0 r)).1 refl) s (has_key (Text s ∷ Text (without_trailing_blanks w) ∷ [])) (is_of_work w) (tested s w)
+    layout.versions (told_to_front tells_version o b) db found holds.derived.versions (λ q. texts_told o b q (sound_order b holds.sound q).right) lists.rows))
     lists.sorted
 
 -- the last of them up to a cut shows the version there

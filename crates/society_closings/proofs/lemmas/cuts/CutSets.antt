@@ -18,10 +18,11 @@ use Rattle.society_core.specs.declared.transmission_key.TransmissionKey.{Transmi
 use Rattle.society_closings.specs.CutWorks.{ChoosesNaming}
 use Rattle.society_closings.specs.declared.chosen.Chosen.{Chosen}
 use Rattle.society_closings.proofs.lemmas.cuts.CutCandidates.{absent_names, adds_alike}
-use Rattle.society_closings.proofs.lemmas.cuts.CutChoices.{or_true}
 use Rattle.sqlite_keyed.proofs.ListLemmas.{flat_map-map}
 use Rattle.works_core.specs.Line.{NumberedTransmission}
 use Rattle.share_rules.specs.declared.holder.Holder.{Holder}
+use Rattle.std.proofs.lemmas.Bool.{or_right}
+use Rattle.society_book.proofs.lemmas.rows_alike.RowLemmas.{any_same}
 
 -- ---- the numbers of a list that stand in another
 
@@ -30,8 +31,7 @@ abbrev pub is_in : ℕ → List ℕ → Bool
 is_in n ks = list_any (λ k. eq_by_cmp nat_cmp n k) ks
 
 in_is : (n : ℕ) (ks : List ℕ) → is_in n ks ≡ is_one_of ks n
-in_is n [] = refl
-in_is n (k ∷ ks) = ap₂ (λ x y. x || y) (tie n k) (in_is n ks)
+in_is n ks = any_same (λ k. eq_by_cmp nat_cmp n k) (λ k. k == n) (tie n) ks
   where
     tie : (a b : ℕ) → eq_by_cmp nat_cmp a b ≡ (b == a)
     tie a b = grind (arith, nat_tests)
@@ -64,7 +64,7 @@ passing_each p f (a ∷ list) = filter-append p (f a) (flat_map f list) ∙ ap (
 -- what holds of each number in a list holds of all of it
 all_in : (P : ℕ → Type 0) (ks : List ℕ) → ((n : ℕ) → is_in n ks ≡ true → P n) → AllByRecursion P ks
 all_in P [] each = tt
-all_in P (k ∷ ks) each = (each k (ap (λ (c : Bool). c || is_in k ks) (sym (unsigned_ties k k) ∙ (unsigned_Decides k k).1 refl)), all_in P ks (λ n there. each n (ap (λ (c : Bool). eq_by_cmp nat_cmp n k || c) there ∙ or_true (eq_by_cmp nat_cmp n k))))
+all_in P (k ∷ ks) each = (each k (ap (λ (c : Bool). c || is_in k ks) (sym (unsigned_ties k k) ∙ (unsigned_Decides k k).1 refl)), all_in P ks (λ n there. each n (ap (λ (c : Bool). eq_by_cmp nat_cmp n k || c) there ∙ or_right (eq_by_cmp nat_cmp n k) true refl)))
 
 -- and of the one at a place of it
 all_get : (P : ℕ → Type 0) (ks : List ℕ) (i n : ℕ) → AllByRecursion P ks → n ≡ get_or ks i n → i < length ks → P n

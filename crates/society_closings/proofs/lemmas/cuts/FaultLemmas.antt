@@ -7,7 +7,7 @@ use Rattle.sqlite_schema.specs.declared.schema.Table.{Table}
 use Rattle.sqlite_trees.proofs.ListLemmas.{all-filter, all-permutation}
 use Rattle.sqlite_trees.specs.Tree.{Trees}
 use Rattle.sqlite_value.specs.Order.{Row}
-use Rattle.society_book.proofs.lemmas.together.ErrLemmas.{errs_on, errs_then}
+use Rattle.society_book.proofs.lemmas.together.ErrLemmas.{errs_on, errs_then, blames_more}
 use Rattle.society_book.proofs.lemmas.together.StepLemmas.{does_not, looks_then}
 use Rattle.society_book.specs.Errors.{Blames}
 use Rattle.society_book.specs.Steps.{Looks}
@@ -16,19 +16,6 @@ use Rattle.society_rows.specs.Reads.{Lists}
 use Rattle.society_rows.specs.Stored.{rows_in}
 use Rattle.society_rows.specs.declared.fault.RowFault.{RowFault}
 use Rattle.society_rows.specs.declared.fault.RowFault.TheVariants as row
-
--- a fault that blames more
-blames_more : (P Q : Type 0) (fault : RowFault) → (P → Q) → Blames P fault → Blames Q fault
-blames_more P Q row.Memory also blames = tt
-blames_more P Q row.Schema also blames = also blames
-blames_more P Q row.Unread also blames = also blames
-blames_more P Q row.Overflow also blames = tt
-blames_more P Q (row.Refused error) also blames = blames
-
--- so of an answer
-pub blames_where : {X : Type 0} (P Q : Type 0) (r : Result X RowFault) → IfErr r (Blames P) → (P → Q) → IfErr r (Blames Q)
-blames_where P Q (Ok x) blames also = tt
-blames_where P Q (Err fault) blames also = blames_more P Q fault also blames
 
 -- an error that is handed on
 pub blames_on : {X : Type 0} (P Q : Type 0) (fault : RowFault) (r : Result X RowFault) → Blames P fault → IsErrAnd r (λ e. e ≡ fault) → (P → Q) → IfErr r (Blames Q)

@@ -1,6 +1,6 @@
 -- The rows of versions and of recordings that are derived from a sound book can be read.
 use Rattle.std.proofs.Common.{◌≡◌, not, is_ok, ◌||◌, is_none, ◌∙◌, ◌<◌, ◌≤◌, ◌+◌, ◌*◌, ◌^◌, ◌++◌, ◌&&◌, ◌==◌, ℕ, pos, Bool, true, false, cond, eqb, nat_le, List, [], ◌∷◌, Option, Some, None, Ok, Err, IsOk, FitsSigned, w64, refl, ap, sym, subst, arith, map, flat_map, length, append-nil, append_assoc, length-append, unwrap_or}
-use Rattle.std.proofs.lemmas.Bool.{false≢true, leb-true}
+use Rattle.std.proofs.lemmas.Bool.{false≢true, leb-true, or_right}
 use Rattle.std.proofs.lemmas.List.{length-map}
 use Rattle.std.proofs.lemmas.List.FromFn.{length-enumerate_from}
 use Rattle.std.proofs.lemmas.Slice.Eq.{bytes_eq-Decides}
@@ -20,13 +20,13 @@ use Rattle.sender_segments.specs.Ascends.{Ascends}
 use Rattle.sender_segments.specs.Ways.{AreRight}
 use Rattle.share_rules.specs.Fault.{fault_of}
 use Rattle.share_rules.specs.declared.office.Office.{Office}
-use Rattle.society_closings.proofs.lemmas.cuts.CutChoices.{or_true}
 use Rattle.society_book.proofs.lemmas.lines.LineRows.{line_goes, placed_over, sent, verdicts_go}
 use Rattle.society_book.proofs.lemmas.rows_alike.RowLemmas.{all_rows}
 use Rattle.society_book.specs.Columns.{text_at}
 use Rattle.society_book.specs.DerivedRows.{Telling, is_named, tells_recordings, tells_version, told_by, told_from, told_to_front, work_text}
 use Rattle.society_book.specs.Sources.{HoldsWorks}
-use Rattle.society_closings.specs.Readable.{IsRecordingRow, IsVersionRow}
+use Rattle.society_closings.specs.Readable.{IsRecordingRow}
+use Rattle.society_book.specs.Readable.{IsVersionRow}
 use Rattle.society_core.proofs.lemmas.Books.{right_body, some_body, sound_front, sound_order}
 use Rattle.society_core.proofs.lemmas.Fronts.{first_holds, second_holds}
 use Rattle.society_core.proofs.lemmas.LineNumbers.{in_line_within, is_first, line_rises_to, one_of_either, there_in_line}
@@ -242,7 +242,7 @@ module _ (tells : Telling) (P : Row → Type 0) (o : Office) (s : List ℕ) wher
         (from_right n (right n one) 0 xs past (omega (arith, sent_few b s n sound)) (omega (arith, sent_few b s n sound, length-map (placed_over o b s before) (λ (t : Placed). t.judged), few, listed, whole, short, front_low)))
       where
         one_there : (before more : List ℕ) (n : ℕ) → is_one_of (before ++ n ∷ more) n ≡ true
-        one_there before more n = one_of_either before (n ∷ more) n ∙ ap (λ (c : Bool). is_one_of before n || c) (is_first n more) ∙ or_true (is_one_of before n)
+        one_there before more n = one_of_either before (n ∷ more) n ∙ ap (λ (c : Bool). is_one_of before n || c) (is_first n more) ∙ or_right (is_one_of before n) true refl
 
     on_right : (before more : List ℕ) → line b s ≡ before ++ more → AllByRecursion P (flat_map (told_by tells o b s) more)
     on_right before [] is = tt

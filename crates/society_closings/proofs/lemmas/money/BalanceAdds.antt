@@ -3,13 +3,12 @@ use Rattle.std.proofs.Common.{◌≡◌, ◌∙◌, ◌+◌, ◌⊎◌, ⊎_elim
 use Rattle.std.specs.List.{AllByRecursion, sum_by}
 use Rattle.std.proofs.lemmas.List.{append-nil}
 use Rattle.std.proofs.lemmas.List.Elements.{filter-append}
-use Rattle.std.proofs.lemmas.List.Sorted.{IsPermutation-refl, IsPermutation-trans, length_permutation, sum_by-IsPermutation}
+use Rattle.std.proofs.lemmas.List.Sorted.{length_permutation, sum_by-IsPermutation}
 use Rattle.std.proofs.lemmas.List.Sums.{sum_by_push}
 use Rattle.std.proofs.lemmas.Slice.Eq.{bytes_eq-Decides}
 use Rattle.pool_split.specs.Credits.{units_of}
 use Rattle.pool_split.specs.declared.claim.Credit.{Credit}
 use Rattle.sqlite.specs.Effect.{Database}
-use Rattle.sqlite_keyed.proofs.ListLemmas.{IsPermutation-filter}
 use Rattle.sqlite_trees.proofs.ListLemmas.{filter_same}
 use Rattle.sqlite_value.specs.declared.value.Value.TheVariants.{Int, Text}
 use Rattle.sqlite_value.specs.Order.{Row}
@@ -18,12 +17,13 @@ use Rattle.society_rows.specs.Reads.{has_key}
 use Rattle.society_rows.specs.Stored.{AreNumbered, put_over, rows_in}
 use Rattle.society_book.specs.Columns.{HasRows, text_at}
 use Rattle.society_book.specs.DerivedRows.{balance_rows_by, is_named}
-use Rattle.society_book.specs.Shown.{AddsEach}
+use Rattle.society_closings.specs.Closings.{AddsEach}
 use Rattle.society_book.proofs.lemmas.rows_alike.KeyRows.{either_way}
 use Rattle.society_book.proofs.lemmas.rows_alike.NamedRows.{HasName, keyed_as_named}
-use Rattle.society_book.proofs.lemmas.rows_alike.PutRows.{others_left}
+use Rattle.society_book.proofs.lemmas.rows_alike.PutRows.{put_holds}
 use Rattle.society_book.proofs.lemmas.rows_alike.RowLemmas.{all_rows, none_else, one_else}
 use Rattle.work_ids.specs.Account.{account_text}
+use Rattle.society_book.proofs.lemmas.shown.AccountRows.{balances_named}
 
 -- those of some credits that name an account
 abbrev pub of_account : List ℕ → List Credit → List Credit
@@ -32,10 +32,6 @@ of_account account credits = filter (λ credit. bytes_eq account (account_text c
 -- the row of an account by some credits
 abbrev pub rows_by : List Credit → List ℕ → List Row
 rows_by credits account = balance_rows_by account (of_account account credits)
-
-named_by : (a : List ℕ) (cs : List Credit) → AllByRecursion HasName (balance_rows_by a cs)
-named_by a [] = tt
-named_by a (c ∷ cs) = (refl, tt)
 
 no_more : (n : ℕ) → 0 ≡ suc n → ⊥
 no_more n e = omega (arith, e)
@@ -48,7 +44,7 @@ same_balance a (x ∷ xs) (y ∷ ys) p = ap (λ (n : ℕ). (Text a ∷ Int (pos 
 
 module _ (done : List Credit) (old : List Row) (has : HasRows is_named (rows_by done) old) where
   all_named : AllByRecursion HasName old
-  all_named = all_rows is_named (text_at 0) (λ r. (bytes_eq-Decides (text_at 0 r) (text_at 0 r)).1 refl) HasName (rows_by done) old has (λ q. named_by q (of_account q done))
+  all_named = all_rows is_named (text_at 0) (λ r. (bytes_eq-Decides (text_at 0 r) (text_at 0 r)).1 refl) HasName (rows_by done) old has (λ q. balances_named q (of_account q done))
 
   -- the units that an account has by its row are those of its credits
   units_there : (a : List ℕ) (before : ℤ) → ((filter (has_key (Text a ∷ [])) old ≡ []) × (before ≡ pos 0)) ⊎ (filter (has_key (Text a ∷ [])) old ≡ (Text a ∷ Int before ∷ []) ∷ []) → before ≡ pos (sum_by units_of (of_account a done))
@@ -71,13 +67,7 @@ module _ (done : List Credit) (old : List Row) (has : HasRows is_named (rows_by 
 
   -- the rows once one credit more is added
   one_added : (c : Credit) (new : List Row) → IsPermutation (put_over (Text (account_text c.account) ∷ Int (pos (sum_by units_of (of_account (account_text c.account) done) + c.units)) ∷ []) old) new → HasRows is_named (rows_by (done ++ c ∷ [])) new
-  one_added c new put t =
-      let a = account_text c.account in
-      let total = sum_by units_of (of_account a done) + c.units in
-      let left = others_left a (Int (pos total) ∷ []) old all_named t in
-      IsPermutation-trans (rows_by (done ++ c ∷ []) t) (filter (is_named t) (put_over (Text a ∷ Int (pos total) ∷ []) old)) (filter (is_named t) new)
-      (by_case (bytes_eq a t) refl left)
-      (IsPermutation-filter (is_named t) (put_over (Text a ∷ Int (pos total) ∷ []) old) new put)
+  one_added c new put = put_holds a (Int (pos total) ∷ []) (rows_by done) (rows_by (done ++ c ∷ [])) old new has (λ q. balances_named q (of_account q done)) grows put
     where
       a : List ℕ
       a = account_text c.account
@@ -85,28 +75,20 @@ module _ (done : List Credit) (old : List Row) (has : HasRows is_named (rows_by 
       total : ℕ
       total = sum_by units_of (of_account a done) + c.units
 
-      same : {xs ys : List Row} → xs ≡ ys → IsPermutation xs ys
-      same {xs} e = subst (IsPermutation xs) e (IsPermutation-refl xs)
+      last_one : (t : List ℕ) (cs : List Credit) → balance_rows_by t (cs ++ c ∷ []) ≡ (Text t ∷ Int (pos (sum_by units_of cs + c.units)) ∷ []) ∷ []
+      last_one t [] = ap (λ (n : ℕ). (Text t ∷ Int (pos n) ∷ []) ∷ []) (sum_by_push units_of [] c)
+      last_one t (d ∷ ds) = ap (λ (n : ℕ). (Text t ∷ Int (pos n) ∷ []) ∷ []) (sum_by_push units_of (d ∷ ds) c)
 
-      last_one : (a : List ℕ) (cs : List Credit) → balance_rows_by a (cs ++ c ∷ []) ≡ (Text a ∷ Int (pos (sum_by units_of cs + c.units)) ∷ []) ∷ []
-      last_one a [] = ap (λ (n : ℕ). (Text a ∷ Int (pos n) ∷ []) ∷ []) (sum_by_push units_of [] c)
-      last_one a (d ∷ ds) = ap (λ (n : ℕ). (Text a ∷ Int (pos n) ∷ []) ∷ []) (sum_by_push units_of (d ∷ ds) c)
+      by_case : (t : List ℕ) (x : Bool) → bytes_eq a t ≡ x → balance_rows_by t (of_account t done ++ cond x (c ∷ []) []) ≡ cond x ((Text a ∷ Int (pos total) ∷ []) ∷ []) (rows_by done t)
+      by_case t true is =
+          last_one t (of_account t done)
+          ∙ ap (λ (q : List ℕ). (Text q ∷ Int (pos (sum_by units_of (of_account q done) + c.units)) ∷ []) ∷ []) (sym ((bytes_eq-Decides a t).0 is))
+      by_case t false is = ap (balance_rows_by t) (append-nil (of_account t done))
 
-      told : of_account t (done ++ c ∷ []) ≡ of_account t done ++ cond (bytes_eq a t) (c ∷ []) []
-      told = filter-append (λ credit. bytes_eq t (account_text credit.account)) done (c ∷ []) ∙ ap (λ (x : Bool). of_account t done ++ cond x (c ∷ []) []) (either_way t a)
-
-      by_case : (x : Bool) → bytes_eq a t ≡ x → filter (is_named t) (put_over (Text a ∷ Int (pos total) ∷ []) old) ≡ cond (bytes_eq a t) ((Text a ∷ Int (pos total) ∷ []) ∷ []) (filter (is_named t) old) → IsPermutation (rows_by (done ++ c ∷ []) t) (filter (is_named t) (put_over (Text a ∷ Int (pos total) ∷ []) old))
-      by_case true is left =
-          let one : a ≡ t = (bytes_eq-Decides a t).0 is in
-          same (ap (balance_rows_by t) (told ∙ ap (λ (x : Bool). of_account t done ++ cond x (c ∷ []) []) is)
-          ∙ last_one t (of_account t done)
-          ∙ ap (λ (q : List ℕ). (Text q ∷ Int (pos (sum_by units_of (of_account q done) + c.units)) ∷ []) ∷ []) (sym one)
-          ∙ sym (left ∙ ap (λ (x : Bool). cond x ((Text a ∷ Int (pos total) ∷ []) ∷ []) (filter (is_named t) old)) is))
-      by_case false is left =
-          IsPermutation-trans (rows_by (done ++ c ∷ []) t) (rows_by done t) (filter (is_named t) (put_over (Text a ∷ Int (pos total) ∷ []) old))
-          (same (ap (balance_rows_by t) (told ∙ ap (λ (x : Bool). of_account t done ++ cond x (c ∷ []) []) is ∙ append-nil (of_account t done))))
-          (IsPermutation-trans (rows_by done t) (filter (is_named t) old) (filter (is_named t) (put_over (Text a ∷ Int (pos total) ∷ []) old)) (has t)
-          (same (sym (left ∙ ap (λ (x : Bool). cond x ((Text a ∷ Int (pos total) ∷ []) ∷ []) (filter (is_named t) old)) is))))
+      grows : (t : List ℕ) → rows_by (done ++ c ∷ []) t ≡ cond (bytes_eq a t) ((Text a ∷ Int (pos total) ∷ []) ∷ []) (rows_by done t)
+      grows t =
+          ap (balance_rows_by t) (filter-append (λ credit. bytes_eq t (account_text credit.account)) done (c ∷ []) ∙ ap (λ (x : Bool). of_account t done ++ cond x (c ∷ []) []) (either_way t a))
+          ∙ by_case t (bytes_eq a t) refl
 
 -- the rows once credits have been added, each in its turn
 pub each_added : (cs done : List Credit) (old new : Database) → AreNumbered layout.balances old.trees → HasRows is_named (rows_by done) (rows_in layout.balances old.trees) → AddsEach cs old new → HasRows is_named (rows_by (done ++ cs)) (rows_in layout.balances new.trees) × AreNumbered layout.balances new.trees

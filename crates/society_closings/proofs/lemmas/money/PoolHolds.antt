@@ -18,7 +18,7 @@ use Rattle.society_book.specs.DerivedRows.{is_named}
 use Rattle.society_book.specs.Kept.{HoldsBook}
 use Rattle.society_closings.proofs.lemmas.money.BalanceAdds.{each_added, rows_by}
 use Rattle.society_closings.proofs.lemmas.money.PoolTables.{pool_added}
-use Rattle.society_book.proofs.lemmas.lines.RunTables.{rows_kept}
+use Rattle.society_book.proofs.lemmas.rows_alike.KeptTables.{rows_kept}
 use Rattle.society_closings.proofs.lemmas.money.SameTotals.{same_behind, same_itself}
 
 -- with what is written of a pool, and the units of its credits, the tables hold the book with the pool

@@ -1,5 +1,5 @@
 -- The tables once a pool is closed: they hold the book with it.
-use Rattle.std.proofs.Common.{◌≡◌, ◌+◌, ◌∙◌, ◌==◌, ◌++◌, ℕ, Bool, true, false, cond, List, [], ◌∷◌, Option, Some, None, refl, ap, sym, subst, arith, filter, map, append_assoc, IsPermutation, Less, Equal, Greater, Ordering}
+use Rattle.std.proofs.Common.{◌≡◌, ◌∙◌, ◌==◌, ◌++◌, ℕ, Bool, true, false, cond, List, [], ◌∷◌, Option, Some, None, refl, ap, sym, subst, arith, filter, map, append_assoc, IsPermutation, Less, Equal, Greater, Ordering}
 use Rattle.std.specs.FinMap as finite
 use Rattle.std.specs.FinMap.Entries.{by_order}
 use Rattle.std.specs.List.{AllByRecursion, enumerate_from, flat_map}
@@ -12,7 +12,7 @@ use Rattle.pool_split.specs.declared.claim.Credit.{Credit}
 use Rattle.share_rules.specs.declared.kind.Kind.{Kind}
 use Rattle.share_rules.specs.declared.kind.Kind.TheVariants.{Performing, Mechanical}
 use Rattle.share_rules.specs.declared.office.Office.{Office}
-use Rattle.sqlite_keyed.proofs.ListLemmas.{IsPermutation-filter}
+use Rattle.sqlite_keyed.proofs.ListLemmas.{IsPermutation-filter, all-map, all_weaker, filter_all, filter_none}
 use Rattle.sqlite_trees.specs.Tree.{Trees, rowid}
 use Rattle.sqlite_trees.specs.View.{is_int}
 use Rattle.sqlite_value.specs.Order.{Row}
@@ -25,41 +25,17 @@ use Rattle.society_core.specs.Pools.{all_credits, credits_of}
 use Rattle.society_core.specs.declared.return_key.ReturnKey.{ReturnKey}
 use Rattle.society_core.specs.declared.transmission_key.TransmissionKey.{TransmissionKey}
 use Rattle.society_rows.specs.Layout as layout
-use Rattle.society_rows.specs.Layout.{all_tables, written_out}
+use Rattle.society_rows.specs.Layout.{written_out}
 use Rattle.society_rows.specs.Stored.{AreNumbered, rows_in}
 use Rattle.society_book.specs.BookRows.{cut_row, is_of_pool, marks_by, marks_of, paid_row, pool_row, row_of_some, rows_of_order}
 use Rattle.society_book.specs.Columns.{HasRows, whole_number_at}
 use Rattle.society_book.specs.DerivedRows.{balance_rows, credit_row, credit_rows_by, is_named}
 use Rattle.society_book.specs.Kept.{HoldsBook}
-use Rattle.society_book.specs.Shown.{AddsPool, KeepsLines}
+use Rattle.society_closings.specs.Closings.{AddsPool}
 use Rattle.society_closings.proofs.lemmas.money.BalanceAdds.{of_account, rows_by, same_balance}
 use Rattle.society_book.proofs.lemmas.money.PoolsAlike.{of_order, of_pools}
 use Rattle.society_book.proofs.lemmas.rows_alike.RowLemmas.{more_rows}
-use Rattle.society_book.proofs.lemmas.lines.RunTables.{rows_kept, same_permutation}
-
--- every table but those of the pools and of what they pay is as it was
-pub record KeepLines (old new : Trees) : Type 0 where
-  pub office : new layout.office.tree ≡ old layout.office.tree
-  pub transmissions : new layout.transmissions.tree ≡ old layout.transmissions.tree
-  pub returns : new layout.returns.tree ≡ old layout.returns.tree
-  pub fronts : new layout.fronts.tree ≡ old layout.fronts.tree
-  pub verdicts : new layout.verdicts.tree ≡ old layout.verdicts.tree
-  pub versions : new layout.versions.tree ≡ old layout.versions.tree
-  pub recordings : new layout.recordings.tree ≡ old layout.recordings.tree
-  pub ends : new layout.segment_ends.tree ≡ old layout.segment_ends.tree
-
-kept_lines : (old new : Trees) → KeepsLines old new → KeepLines old new
-unfolding all_tables written_out
-kept_lines old new keeps = record {
-  office = keeps.0 (λ e. omega (arith, e)) (λ e. omega (arith, e)) (λ e. omega (arith, e)) (λ e. omega (arith, e)) (λ e. omega (arith, e)) (λ e. omega (arith, e));
-  transmissions = keeps.1.0 (λ e. omega (arith, e)) (λ e. omega (arith, e)) (λ e. omega (arith, e)) (λ e. omega (arith, e)) (λ e. omega (arith, e)) (λ e. omega (arith, e));
-  returns = keeps.1.1.0 (λ e. omega (arith, e)) (λ e. omega (arith, e)) (λ e. omega (arith, e)) (λ e. omega (arith, e)) (λ e. omega (arith, e)) (λ e. omega (arith, e));
-  fronts = keeps.1.1.1.1.1.1.0 (λ e. omega (arith, e)) (λ e. omega (arith, e)) (λ e. omega (arith, e)) (λ e. omega (arith, e)) (λ e. omega (arith, e)) (λ e. omega (arith, e));
-  verdicts = keeps.1.1.1.1.1.1.1.0 (λ e. omega (arith, e)) (λ e. omega (arith, e)) (λ e. omega (arith, e)) (λ e. omega (arith, e)) (λ e. omega (arith, e)) (λ e. omega (arith, e));
-  versions = keeps.1.1.1.1.1.1.1.1.0 (λ e. omega (arith, e)) (λ e. omega (arith, e)) (λ e. omega (arith, e)) (λ e. omega (arith, e)) (λ e. omega (arith, e)) (λ e. omega (arith, e));
-  recordings = keeps.1.1.1.1.1.1.1.1.1.0 (λ e. omega (arith, e)) (λ e. omega (arith, e)) (λ e. omega (arith, e)) (λ e. omega (arith, e)) (λ e. omega (arith, e)) (λ e. omega (arith, e));
-  ends = keeps.1.1.1.1.1.1.1.1.1.1.1.1.0 (λ e. omega (arith, e)) (λ e. omega (arith, e)) (λ e. omega (arith, e)) (λ e. omega (arith, e)) (λ e. omega (arith, e)) (λ e. omega (arith, e));
-}
+use Rattle.society_book.proofs.lemmas.rows_alike.KeptTables.{rows_kept, same_permutation, kept_but}
 
 tie : (n m : ℕ) → eq_by_cmp nat_cmp n m ≡ (n == m)
 tie n m = grind (arith, nat_tests)
@@ -84,34 +60,24 @@ abbrev AreAt : ℕ → ℕ → List Row → Type 0
 AreAt at pool rows = AllByRecursion (λ row. whole_number_at at row ≡ pool) rows
 
 of_one : (at pool : ℕ) (rows : List Row) → AreAt at pool rows → (q : ℕ) → filter (is_of_pool at q) rows ≡ cond (q == pool) rows []
-of_one at pool [] all q = neither (q == pool)
+of_one at pool rows all q = by_case (q == pool) refl
   where
-    neither : (x : Bool) → ◌≡◌ {A = List Row} [] (cond x [] [])
-    neither true = refl
-    neither false = refl
-of_one at pool (row ∷ rows) all q =
-    ap (λ (n : ℕ). cond (q == n) (row ∷ filter (is_of_pool at q) rows) (filter (is_of_pool at q) rows)) all.0
-    ∙ ap (λ l. cond (q == pool) (row ∷ l) l) (of_one at pool rows all.1 q) ∙ by_case (q == pool)
-  where
-    by_case : (x : Bool) → cond x (row ∷ cond x rows []) (cond x rows []) ≡ cond x (row ∷ rows) []
-    by_case true = refl
-    by_case false = refl
+    by_case : (x : Bool) → (q == pool) ≡ x → filter (is_of_pool at q) rows ≡ cond x rows []
+    by_case true is = filter_all (is_of_pool at q) rows (all_weaker (λ row. whole_number_at at row ≡ pool) (λ row. is_of_pool at q row ≡ true) (λ row its. ap (λ (n : ℕ). q == n) its ∙ is) rows all)
+    by_case false is = filter_none (is_of_pool at q) rows (all_weaker (λ row. whole_number_at at row ≡ pool) (λ row. is_of_pool at q row ≡ false) (λ row its. ap (λ (n : ℕ). q == n) its ∙ is) rows all)
 
 cuts_at : (pool : ℕ) (keys : List TransmissionKey) → AreAt 0 pool (map (cut_row pool) keys)
-cuts_at pool [] = tt
-cuts_at pool (key ∷ keys) = (refl, cuts_at pool keys)
+cuts_at pool keys = all-map (λ row. whole_number_at 0 row ≡ pool) (cut_row pool) (λ key. refl) keys
 
 paid_at : (pool : ℕ) (keys : List ReturnKey) → AreAt 2 pool (map (paid_row pool) keys)
-paid_at pool [] = tt
-paid_at pool (key ∷ keys) = (refl, paid_at pool keys)
+paid_at pool keys = all-map (λ row. whole_number_at 2 row ≡ pool) (paid_row pool) (λ key. refl) keys
 
 marks_at : (pool : ℕ) (kind : Kind) → AreAt 0 pool (marks_of pool kind)
 marks_at pool Performing = tt
 marks_at pool Mechanical = (refl, tt)
 
 lines_at : (pool from : ℕ) (cs : List Credit) → AreAt 0 pool (map (λ line. credit_row pool line.0 line.1) (enumerate_from from cs))
-lines_at pool from [] = tt
-lines_at pool from (c ∷ cs) = (refl, lines_at pool (from + 1) cs)
+lines_at pool from cs = all-map (λ row. whole_number_at 0 row ≡ pool) (λ (line : ℕ × Credit). credit_row pool line.0 line.1) (λ line. refl) (enumerate_from from cs)
 
 module _ (o : Office) (b : Book) (pool : ℕ) (order : Order) (free : order_at b pool ≡ None) where
   abbrev pub closed : Book
@@ -162,30 +128,30 @@ module _ (o : Office) (b : Book) (pool : ℕ) (order : Order) (free : order_at b
 
     -- with the rows of this pool and of what it pays more, the tables hold the book with it
     pub pool_added : (old new : Trees) → HoldsBook o b old → IsOrder order → ((other : ℕ) (another : Order) (key : ReturnKey) → order_at b other ≡ Some another → names_return key order ≡ true → names_return key another ≡ true → ⊥) → AddsPool pool order (credits_of o b order) old new → HasRows is_named (rows_by (all_credits o b ++ credits_of o b order)) (rows_in layout.balances new) → AreNumbered layout.balances new → HoldsBook o closed new
-    unfolding line
+    unfolding line written_out
     pool_added old new holds is unpaid closes balances numbered =
-        let keeps = kept_lines old new closes.others in
+        let keeps = kept_but (layout.pools.tree ∷ layout.pool_cuts.tree ∷ layout.pool_returns.tree ∷ layout.mechanical_pools.tree ∷ layout.credits_table.tree ∷ layout.balances.tree ∷ []) old new closes.others in
         let grown = λ (at : ℕ) (F : ℕ → Option Order → List Row) (more : List Row) (its : AreAt at pool more) (none : F pool None ≡ []) (here : F pool (Some order) ≡ more) (q : ℕ). same_permutation (pool_more at F F more its none here (λ p. refl) q) in
         record {
-          registered = rows_kept layout.office old new keeps.office ∙ holds.registered;
+          registered = rows_kept layout.office old new (keeps.office refl) ∙ holds.registered;
           sound = sound_with_pool b pool order holds.sound entry is unpaid;
           kept = record {
-            transmissions = subst (HasRows _ _) (sym (rows_kept layout.transmissions old new keeps.transmissions)) holds.kept.transmissions;
-            returns = subst (HasRows _ _) (sym (rows_kept layout.returns old new keeps.returns)) holds.kept.returns;
+            transmissions = subst (HasRows _ _) (sym (rows_kept layout.transmissions old new (keeps.transmissions refl))) holds.kept.transmissions;
+            returns = subst (HasRows _ _) (sym (rows_kept layout.returns old new (keeps.returns refl))) holds.kept.returns;
             pools = more_rows (is_of_pool 0) (λ q. row_of_some (pool_row q) (order_at b q)) (λ q. row_of_some (pool_row q) (order_at closed q)) (pool_row pool order ∷ []) (rows_in layout.pools old) (rows_in layout.pools new) holds.kept.pools (grown 0 (λ q. row_of_some (pool_row q)) (pool_row pool order ∷ []) (refl, tt) refl refl) closes.pools;
             cuts = more_rows (is_of_pool 0) (λ q. rows_of_order (cut_row q) (λ r. r.cut) (order_at b q)) (λ q. rows_of_order (cut_row q) (λ r. r.cut) (order_at closed q)) (map (cut_row pool) order.cut) (rows_in layout.pool_cuts old) (rows_in layout.pool_cuts new) holds.kept.cuts (grown 0 (λ q. rows_of_order (cut_row q) (λ r. r.cut)) (map (cut_row pool) order.cut) (cuts_at pool order.cut) refl refl) closes.cuts;
             paid = more_rows (is_of_pool 2) (λ q. rows_of_order (paid_row q) (λ r. r.returns) (order_at b q)) (λ q. rows_of_order (paid_row q) (λ r. r.returns) (order_at closed q)) (map (paid_row pool) order.returns) (rows_in layout.pool_returns old) (rows_in layout.pool_returns new) holds.kept.paid (grown 2 (λ q. rows_of_order (paid_row q) (λ r. r.returns)) (map (paid_row pool) order.returns) (paid_at pool order.returns) refl refl) closes.paid;
-            ends = subst (HasRows _ _) (sym (rows_kept layout.segment_ends old new keeps.ends)) holds.kept.ends;
+            ends = subst (HasRows _ _) (sym (rows_kept layout.segment_ends old new (keeps.ends refl))) holds.kept.ends;
             mechanical = more_rows (is_of_pool 0) (λ q. marks_by q (order_at b q)) (λ q. marks_by q (order_at closed q)) (marks_of pool order.kind) (rows_in layout.mechanical_pools old) (rows_in layout.mechanical_pools new) holds.kept.mechanical (grown 0 marks_by (marks_of pool order.kind) (marks_at pool order.kind) refl refl) closes.marks;
           };
           derived = record {
-            fronts = subst (HasRows _ _) (sym (rows_kept layout.fronts old new keeps.fronts)) holds.derived.fronts;
-            verdicts = subst (HasRows _ _) (sym (rows_kept layout.verdicts old new keeps.verdicts)) holds.derived.verdicts;
-            versions = subst (HasRows _ _) (sym (rows_kept layout.versions old new keeps.versions)) holds.derived.versions;
-            recordings = subst (HasRows _ _) (sym (rows_kept layout.recordings old new keeps.recordings)) holds.derived.recordings;
+            fronts = subst (HasRows _ _) (sym (rows_kept layout.fronts old new (keeps.fronts refl))) holds.derived.fronts;
+            verdicts = subst (HasRows _ _) (sym (rows_kept layout.verdicts old new (keeps.verdicts refl))) holds.derived.verdicts;
+            versions = subst (HasRows _ _) (sym (rows_kept layout.versions old new (keeps.versions refl))) holds.derived.versions;
+            recordings = subst (HasRows _ _) (sym (rows_kept layout.recordings old new (keeps.recordings refl))) holds.derived.recordings;
             credits = more_rows (is_of_pool 0) (λ q. credit_rows_by o b q (order_at b q)) (λ q. credit_rows_by o closed q (order_at closed q)) (map (λ line. credit_row pool line.0 line.1) (enumerate_from 0 (credits_of o b order))) (rows_in layout.credits_table old) (rows_in layout.credits_table new) holds.derived.credits
                 (λ q. same_permutation (pool_more 0 (credit_rows_by o b) (credit_rows_by o closed) (map (λ line. credit_row pool line.0 line.1) (enumerate_from 0 (credits_of o b order))) (lines_at pool 0 (credits_of o b order)) refl (ap (λ (cs : List Credit). map (λ line. credit_row pool line.0 line.1) (enumerate_from 0 cs)) own_credits) (λ p. of_order o b closed holds.sound pays_closed p (order_at b p) refl) q)) closes.lines;
             balances = λ a. subst (λ (l : List Row). IsPermutation l (filter (is_named a) (rows_in layout.balances new))) (balances_closed holds.sound a) (balances a);
           };
-          numbered = (subst (AllByRecursion (λ r. is_int (rowid r) ≡ true)) (sym keeps.fronts) holds.numbered.0, numbered);
+          numbered = (subst (AllByRecursion (λ r. is_int (rowid r) ≡ true)) (sym (keeps.fronts refl)) holds.numbered.0, numbered);
         }

@@ -18,23 +18,11 @@ use Rattle.share_rules.specs.declared.kind.Kind.{Kind}
 use Rattle.share_rules.specs.declared.kind.Kind.TheVariants.{Performing, Mechanical}
 use Rattle.society_core.specs.Orders.{Order}
 use Rattle.society_book.specs.BookRows.{cut_row, marks_of, mechanical_row, paid_row, pool_row}
-use Rattle.society_closings.specs.Closings.{AddsOrder, ClosesWith, ComeToTheSame, Marks}
+use Rattle.society_closings.specs.Closings.{AddsOrder, ClosesWith, ComeToTheSame, Marks, AddsEach}
 use Rattle.society_book.specs.DerivedRows.{credit_row}
-use Rattle.society_book.specs.Shown.{AddsEach}
-use Rattle.society_book.proofs.lemmas.lines.RunTables.{rows_kept, same_permutation}
-use Rattle.society_book.proofs.lemmas.lines.RunWrites.{KeptBut, both_of, permuted_from, permuted_to}
+use Rattle.society_book.proofs.lemmas.rows_alike.KeptTables.{rows_kept, same_permutation, KeptBut, both_of, permuted_from, permuted_to, each_of}
 use Rattle.work_ids.specs.Account.{account_text}
-
--- what holds of the tables of an order
-record OfOrder (P : Table → Type 0) : Type 0 where
-  pub pools : P layout.pools
-  pub cuts : P layout.pool_cuts
-  pub returns : P layout.pool_returns
-  pub marks : P layout.mechanical_pools
-
-of_order : (P : Table → Type 0) → AllByRecursion P all_tables → OfOrder P
-unfolding all_tables written_out
-of_order P all = record { pools = all.1.1.1.0; cuts = all.1.1.1.1.0; returns = all.1.1.1.1.1.0; marks = all.1.1.1.1.1.1.1.1.1.1.1.1.1.0 }
+use Rattle.sqlite_keyed.proofs.ListLemmas.{all_of}
 
 abbrev KeptOfOrder : Trees → Trees → Table → Type 0
 KeptOfOrder old new t = t.tree ≢ layout.pools.tree → t.tree ≢ layout.pool_cuts.tree → t.tree ≢ layout.pool_returns.tree → t.tree ≢ layout.mechanical_pools.tree → new t.tree ≡ old t.tree
@@ -43,13 +31,13 @@ KeptOfOrder old new t = t.tree ≢ layout.pools.tree → t.tree ≢ layout.pool_
 pub adds_cut : (row : Row) (cut : List Row) (old mid new : Database) → Adds layout.pools (row ∷ []) old mid → Adds layout.pool_cuts cut mid new → AddsOrder row cut [] [] old.trees new.trees
 unfolding all_tables written_out
 adds_cut row cut old mid new first second =
-    let early = of_order (KeptBut layout.pools old.trees mid.trees) first.others in
-    let later = of_order (KeptBut layout.pool_cuts mid.trees new.trees) second.others in
+    let early = each_of (KeptBut layout.pools old.trees mid.trees) first.others in
+    let later = each_of (KeptBut layout.pool_cuts mid.trees new.trees) second.others in
     record {
       pools = permuted_to ((row ∷ []) ++ rows_in layout.pools old.trees) _ _ (rows_kept layout.pools mid.trees new.trees (later.pools (λ e. omega (arith, e)))) first.rows;
-      cuts = permuted_from cut _ _ _ (rows_kept layout.pool_cuts old.trees mid.trees (early.cuts (λ e. omega (arith, e)))) second.rows;
-      returns = same_permutation (sym (rows_kept layout.pool_returns old.trees new.trees (later.returns (λ e. omega (arith, e)) ∙ early.returns (λ e. omega (arith, e)))));
-      marks = same_permutation (sym (rows_kept layout.mechanical_pools old.trees new.trees (later.marks (λ e. omega (arith, e)) ∙ early.marks (λ e. omega (arith, e)))));
+      cuts = permuted_from cut _ _ _ (rows_kept layout.pool_cuts old.trees mid.trees (early.pool_cuts (λ e. omega (arith, e)))) second.rows;
+      returns = same_permutation (sym (rows_kept layout.pool_returns old.trees new.trees (later.pool_returns (λ e. omega (arith, e)) ∙ early.pool_returns (λ e. omega (arith, e)))));
+      marks = same_permutation (sym (rows_kept layout.mechanical_pools old.trees new.trees (later.mechanical (λ e. omega (arith, e)) ∙ early.mechanical (λ e. omega (arith, e)))));
       others = both_of (KeptBut layout.pools old.trees mid.trees) (KeptBut layout.pool_cuts mid.trees new.trees) (KeptOfOrder old.trees new.trees) all_tables (λ t p q x y z w. q y ∙ p x) first.others second.others;
     }
 
@@ -57,24 +45,24 @@ adds_cut row cut old mid new first second =
 pub adds_order : (row : Row) (cut paid : List Row) (old mid new : Database) → AddsOrder row cut [] [] old.trees mid.trees → Adds layout.pool_returns paid mid new → AddsOrder row cut paid [] old.trees new.trees
 unfolding all_tables written_out
 adds_order row cut paid old mid new first second =
-    let early = of_order (KeptBut layout.pool_returns mid.trees new.trees) second.others in
+    let early = each_of (KeptBut layout.pool_returns mid.trees new.trees) second.others in
     record {
       pools = permuted_to ((row ∷ []) ++ rows_in layout.pools old.trees) _ _ (rows_kept layout.pools mid.trees new.trees (early.pools (λ e. omega (arith, e)))) first.pools;
-      cuts = permuted_to (cut ++ rows_in layout.pool_cuts old.trees) _ _ (rows_kept layout.pool_cuts mid.trees new.trees (early.cuts (λ e. omega (arith, e)))) first.cuts;
+      cuts = permuted_to (cut ++ rows_in layout.pool_cuts old.trees) _ _ (rows_kept layout.pool_cuts mid.trees new.trees (early.pool_cuts (λ e. omega (arith, e)))) first.cuts;
       returns = IsPermutation-trans (paid ++ rows_in layout.pool_returns old.trees) (paid ++ rows_in layout.pool_returns mid.trees) (rows_in layout.pool_returns new.trees) (IsPermutation-append_right paid (rows_in layout.pool_returns old.trees) (rows_in layout.pool_returns mid.trees) first.returns) second.rows;
-      marks = permuted_to (rows_in layout.mechanical_pools old.trees) _ _ (rows_kept layout.mechanical_pools mid.trees new.trees (early.marks (λ e. omega (arith, e)))) first.marks;
+      marks = permuted_to (rows_in layout.mechanical_pools old.trees) _ _ (rows_kept layout.mechanical_pools mid.trees new.trees (early.mechanical (λ e. omega (arith, e)))) first.marks;
       others = both_of (KeptOfOrder old.trees mid.trees) (KeptBut layout.pool_returns mid.trees new.trees) (KeptOfOrder old.trees new.trees) all_tables (λ t p q x y z w. q z ∙ p x y z w) first.others second.others;
     }
 
 adds_mark : (row : Row) (cut paid : List Row) (pool : ℕ) (old mid new : Database) → AddsOrder row cut paid [] old.trees mid.trees → Adds layout.mechanical_pools (mechanical_row pool ∷ []) mid new → AddsOrder row cut paid (mechanical_row pool ∷ []) old.trees new.trees
 unfolding all_tables written_out
 adds_mark row cut paid pool old mid new first second =
-    let early = of_order (KeptBut layout.mechanical_pools mid.trees new.trees) second.others in
+    let early = each_of (KeptBut layout.mechanical_pools mid.trees new.trees) second.others in
     let mark : List Row = mechanical_row pool ∷ [] in
     record {
       pools = permuted_to ((row ∷ []) ++ rows_in layout.pools old.trees) _ _ (rows_kept layout.pools mid.trees new.trees (early.pools (λ e. omega (arith, e)))) first.pools;
-      cuts = permuted_to (cut ++ rows_in layout.pool_cuts old.trees) _ _ (rows_kept layout.pool_cuts mid.trees new.trees (early.cuts (λ e. omega (arith, e)))) first.cuts;
-      returns = permuted_to (paid ++ rows_in layout.pool_returns old.trees) _ _ (rows_kept layout.pool_returns mid.trees new.trees (early.returns (λ e. omega (arith, e)))) first.returns;
+      cuts = permuted_to (cut ++ rows_in layout.pool_cuts old.trees) _ _ (rows_kept layout.pool_cuts mid.trees new.trees (early.pool_cuts (λ e. omega (arith, e)))) first.cuts;
+      returns = permuted_to (paid ++ rows_in layout.pool_returns old.trees) _ _ (rows_kept layout.pool_returns mid.trees new.trees (early.pool_returns (λ e. omega (arith, e)))) first.returns;
       marks = IsPermutation-trans (mark ++ rows_in layout.mechanical_pools old.trees) (mark ++ rows_in layout.mechanical_pools mid.trees) (rows_in layout.mechanical_pools new.trees) (IsPermutation-append_right mark (rows_in layout.mechanical_pools old.trees) (rows_in layout.mechanical_pools mid.trees) first.marks) second.rows;
       others = both_of (KeptOfOrder old.trees mid.trees) (KeptBut layout.mechanical_pools mid.trees new.trees) (KeptOfOrder old.trees new.trees) all_tables (λ t p q x y z w. q w ∙ p x y z w) first.others second.others;
     }
@@ -114,26 +102,9 @@ mapped_at f h xs ys i x y same there here =
 
 -- the balances that credits came to, and no other table
 each_keeps : (cs : List Credit) (old new : Database) → AddsEach cs old new → AllByRecursion (KeptBut layout.balances old.trees new.trees) all_tables
-each_keeps [] old new each = all_kept all_tables old.trees new.trees each
-  where
-    all_kept : (ts : List Table) (a b : Trees) → new ≡ old → AllByRecursion (KeptBut layout.balances old.trees new.trees) ts
-    all_kept [] a b same = tt
-    all_kept (t ∷ ts) a b same = ((λ x. ap (λ (db : Database). db.trees t.tree) same), all_kept ts a b same)
+each_keeps [] old new same = all_of (KeptBut layout.balances old.trees new.trees) (λ t _. ap (λ (db : Database). db.trees t.tree) same) all_tables
 each_keeps (c ∷ cs) old new each =
     both_of (KeptBut layout.balances old.trees each.0.trees) (KeptBut layout.balances each.0.trees new.trees) (KeptBut layout.balances old.trees new.trees) all_tables (λ t p q x. q x ∙ p x) each.1.put.others (each_keeps cs each.0 new each.2)
-
--- what holds of the tables of a pool
-record OfPool (P : Table → Type 0) : Type 0 where
-  pub pools : P layout.pools
-  pub cuts : P layout.pool_cuts
-  pub returns : P layout.pool_returns
-  pub marks : P layout.mechanical_pools
-  pub credits : P layout.credits_table
-  pub balances : P layout.balances
-
-of_pool : (P : Table → Type 0) → AllByRecursion P all_tables → OfPool P
-unfolding all_tables written_out
-of_pool P all = record { pools = all.1.1.1.0; cuts = all.1.1.1.1.0; returns = all.1.1.1.1.1.0; marks = all.1.1.1.1.1.1.1.1.1.1.1.1.1.0; credits = all.1.1.1.1.1.1.1.1.1.1.0; balances = all.1.1.1.1.1.1.1.1.1.1.1.0 }
 
 abbrev KeptOfPool : Trees → Trees → Table → Type 0
 KeptOfPool old new t = t.tree ≢ layout.pools.tree → t.tree ≢ layout.pool_cuts.tree → t.tree ≢ layout.pool_returns.tree → t.tree ≢ layout.mechanical_pools.tree → t.tree ≢ layout.credits_table.tree → t.tree ≢ layout.balances.tree → new t.tree ≡ old t.tree
@@ -143,15 +114,15 @@ pub closes_by : (pool : ℕ) (order : Order) (cs totals : List Credit) (old mid 
     → Adds layout.credits_table (map (λ line. credit_row pool line.0 line.1) (enumerate_from 0 cs)) mid late → ComeToTheSame totals cs → AddsEach totals late new → ClosesWith pool order cs old new
 unfolding all_tables written_out
 closes_by pool order cs totals old mid late new ordered lines same each =
-    let first = of_pool (KeptOfOrder old.trees mid.trees) ordered.others in
-    let second = of_pool (KeptBut layout.credits_table mid.trees late.trees) lines.others in
+    let first = each_of (KeptOfOrder old.trees mid.trees) ordered.others in
+    let second = each_of (KeptBut layout.credits_table mid.trees late.trees) lines.others in
     let kept = each_keeps totals late new each in
-    let third = of_pool (KeptBut layout.balances late.trees new.trees) kept in (
+    let third = each_of (KeptBut layout.balances late.trees new.trees) kept in (
       record {
         pools = permuted_to ((pool_row pool order ∷ []) ++ rows_in layout.pools old.trees) _ _ (rows_kept layout.pools mid.trees new.trees (third.pools (λ e. omega (arith, e)) ∙ second.pools (λ e. omega (arith, e)))) ordered.pools;
-        cuts = permuted_to (map (cut_row pool) order.cut ++ rows_in layout.pool_cuts old.trees) _ _ (rows_kept layout.pool_cuts mid.trees new.trees (third.cuts (λ e. omega (arith, e)) ∙ second.cuts (λ e. omega (arith, e)))) ordered.cuts;
-        paid = permuted_to (map (paid_row pool) order.returns ++ rows_in layout.pool_returns old.trees) _ _ (rows_kept layout.pool_returns mid.trees new.trees (third.returns (λ e. omega (arith, e)) ∙ second.returns (λ e. omega (arith, e)))) ordered.returns;
-        marks = permuted_to (marks_of pool order.kind ++ rows_in layout.mechanical_pools old.trees) _ _ (rows_kept layout.mechanical_pools mid.trees new.trees (third.marks (λ e. omega (arith, e)) ∙ second.marks (λ e. omega (arith, e)))) ordered.marks;
+        cuts = permuted_to (map (cut_row pool) order.cut ++ rows_in layout.pool_cuts old.trees) _ _ (rows_kept layout.pool_cuts mid.trees new.trees (third.pool_cuts (λ e. omega (arith, e)) ∙ second.pool_cuts (λ e. omega (arith, e)))) ordered.cuts;
+        paid = permuted_to (map (paid_row pool) order.returns ++ rows_in layout.pool_returns old.trees) _ _ (rows_kept layout.pool_returns mid.trees new.trees (third.pool_returns (λ e. omega (arith, e)) ∙ second.pool_returns (λ e. omega (arith, e)))) ordered.returns;
+        marks = permuted_to (marks_of pool order.kind ++ rows_in layout.mechanical_pools old.trees) _ _ (rows_kept layout.mechanical_pools mid.trees new.trees (third.mechanical (λ e. omega (arith, e)) ∙ second.mechanical (λ e. omega (arith, e)))) ordered.marks;
         lines = permuted_to (map (λ line. credit_row pool line.0 line.1) (enumerate_from 0 cs) ++ rows_in layout.credits_table old.trees) _ _ (rows_kept layout.credits_table late.trees new.trees (third.credits (λ e. omega (arith, e))))
             (permuted_from (map (λ line. credit_row pool line.0 line.1) (enumerate_from 0 cs)) _ _ _ (rows_kept layout.credits_table old.trees mid.trees (first.credits (λ e. omega (arith, e)) (λ e. omega (arith, e)) (λ e. omega (arith, e)) (λ e. omega (arith, e)))) lines.rows);
         others = both_of (KeptOfOrder old.trees mid.trees) (λ t. t.tree ≢ layout.credits_table.tree → t.tree ≢ layout.balances.tree → new.trees t.tree ≡ mid.trees t.tree) (KeptOfPool old.trees new.trees) all_tables (λ t p q x y z m v w. q v w ∙ p x y z m) ordered.others

@@ -3,12 +3,11 @@ use Rattle.std.specs.Prelude.{Vec}
 use Rattle.std.specs.declared.alloc.Global.{Global}
 use Rattle.share_rules.specs.declared.office.Office.{Office}
 use Rattle.society_book.proofs.lemmas.rows_alike.KeyRows.{refilled_by, return_shows_by}
-use Rattle.society_book.proofs.lemmas.together.ErrLemmas.{errs_as, errs_of, errs_on}
+use Rattle.society_book.proofs.lemmas.together.ErrLemmas.{blames_where, errs_as, errs_of, errs_on}
 use Rattle.society_book.proofs.lemmas.together.StepLemmas.{looks_as, looks_of}
 use Rattle.society_book.specs.Shown.{ShowBody}
 use Rattle.society_book.specs.Sources.{HoldsWorks}
 use Rattle.society_closings.proofs.lemmas.cuts.BodyRows.{return_shown}
-use Rattle.society_closings.proofs.lemmas.cuts.FaultLemmas.{blames_where}
 use Rattle.society_closings.proofs.lemmas.money.Payments.{counted_by}
 use Rattle.society_closings.specs.Blamed.{LackReturn}
 use Rattle.society_closings.specs.Readable.{ShowReturn}

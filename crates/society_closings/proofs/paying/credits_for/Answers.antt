@@ -1,11 +1,10 @@
-use Rattle.std.proofs.Common.{◌≡◌, List, subst, sym}
+use Rattle.std.proofs.Common.{◌≡◌, subst, sym}
 use Rattle.std.specs.Prelude.{Vec}
 use Rattle.std.specs.declared.alloc.Global.{Global}
 use Rattle.share_rules.specs.declared.kind.Kind.{Kind}
-use Rattle.society_book.proofs.lemmas.together.ErrLemmas.{errs_as, errs_on}
+use Rattle.society_book.proofs.lemmas.together.ErrLemmas.{blames_where, errs_as, errs_on}
 use Rattle.society_book.proofs.lemmas.together.StepLemmas.{looks_as, more}
 use Rattle.society_book.specs.Sources.{HoldsWorks}
-use Rattle.society_closings.proofs.lemmas.cuts.FaultLemmas.{blames_where}
 use Rattle.society_closings.proofs.lemmas.money.Payments.{by_each}
 use Rattle.society_closings.specs.Blamed.{BelongNowhere, LackCut, LackTallied}
 use Rattle.society_closings.specs.CutWorks.{ListsWorks, wants_for}

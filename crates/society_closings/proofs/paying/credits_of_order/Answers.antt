@@ -7,7 +7,6 @@ use Rattle.society_closings.specs.Choosing.{PaysTallied}
 use Rattle.society_closings.specs.CutWorks.{ListsWorks, wants, wants_for}
 use Rattle.society_core.specs.Points.{is_tallied}
 use Rattle.sqlite.specs.Held.{state}
-use Rattle.sqlite_trees.specs.Tree.{Trees}
 use Rattle.society_closings.proofs.paying.credits_of_order.Goals as goal
 
 pub returns-clause-looks : goal.returns-clause-looks

@@ -1,4 +1,4 @@
-use Rattle.std.proofs.Common.{◌≡◌, ◌∙◌, ◌||◌, ◌+◌, Bool, List, ℕ, ap, arith, bytes_eq, cond, sym, take, true}
+use Rattle.std.proofs.Common.{◌∙◌, ◌||◌, Bool, List, ℕ, ap, arith, bytes_eq, cond, sym, take, true}
 use Rattle.std.proofs.lemmas.List.Folds.{list_any_more}
 use Rattle.std.proofs.lemmas.Map.Text.{is_eq-slice_cmp}
 use Rattle.std.specs.BTreeSet.{contains}

@@ -1,7 +1,6 @@
 use Rattle.std.proofs.Common.{◌∙◌, ◌||◌, ◌+◌, List, ℕ, ap, arith, bytes_eq, sym, take}
 use Rattle.std.proofs.lemmas.List.Folds.{list_any_more}
 use Rattle.std.specs.List.{list_any}
-use Rattle.society_closings.specs.CutWorks.{NotesListed}
 use Rattle.society_closings.proofs.lemmas.cuts.CutLists.{one_recording_more}
 use Rattle.society_closings.proofs.works_by_recording.WorksByRecording.named_works.Goals as goal
 

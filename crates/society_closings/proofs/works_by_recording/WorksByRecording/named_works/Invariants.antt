@@ -1,6 +1,6 @@
 use Rattle.std.proofs.Common.{◌≡◌, List, ℕ, bytes_eq, take, true}
 use Rattle.std.specs.List.{list_any}
-use Rattle.society_closings.specs.CutWorks.{NotesListed, NotesMore, is_of_cut, notes_of_sender, works_listed}
+use Rattle.society_closings.specs.CutWorks.{NotesListed, is_of_cut, notes_of_sender, works_listed}
 use Rattle.work_ids.specs.Isrc.{is_isrc}
 use Rattle.society_closings.proofs.works_by_recording.WorksByRecording.named_works.Given as goal
 

@@ -4,7 +4,7 @@ use Rattle.sender_segments.specs.Ways.{end_stated}
 use Rattle.society_core.specs.Book.{front, with_end}
 use Rattle.society_core.specs.Ends.{place_stated}
 use Rattle.society_book.specs.BookRows.{book_of}
-use Rattle.society_book.specs.Steps.{StatesEnd, StatesEndTo}
+use Rattle.society_arrivals.specs.Arrivals.{StatesEnd, StatesEndTo}
 use Rattle.society_tables.proofs.lemmas.AddLemmas.{addition, rests_after}
 use Rattle.society_tables.proofs.lemmas.StoreQuestions.{one_number}
 use Rattle.society_tables.proofs.tables.TablesStore.add_end.Goals as goal

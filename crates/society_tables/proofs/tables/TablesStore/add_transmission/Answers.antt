@@ -3,7 +3,7 @@ use Rattle.std.proofs.Math.Logic.{∥∥₁_map}
 use Rattle.society_core.specs.Answers.{place_in_book}
 use Rattle.society_core.specs.Book.{with_transmission}
 use Rattle.society_book.specs.BookRows.{book_of}
-use Rattle.society_book.specs.Steps.{Arrives, ArrivesTo}
+use Rattle.society_arrivals.specs.Arrivals.{Arrives, ArrivesTo}
 use Rattle.society_tables.proofs.lemmas.AddLemmas.{addition, rests_after}
 use Rattle.society_tables.proofs.lemmas.StoreQuestions.{one_place}
 use Rattle.society_tables.proofs.tables.TablesStore.add_transmission.Goals as goal
