@@ -99,6 +99,6 @@ ack_body sender transmission verdicts (Some first) =
     ++ trailer_line (ack_trailer 1 count (count + 4))
 
 -- the acknowledgement of a sender's transmission, with one verdict for each of its transactions (profile)
-unfoldable pub acknowledgement : Office → List ℕ → Transmission → List Verdict → List ℕ
-acknowledgement office sender transmission verdicts =
+unfoldable pub acknowledgement_file : Office → List ℕ → Transmission → List Verdict → List ℕ
+acknowledgement_file office sender transmission verdicts =
     header_line (ack_header office transmission.header) ++ ack_body sender transmission verdicts (find has_transactions transmission.groups)

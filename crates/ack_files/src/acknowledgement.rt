@@ -4,7 +4,7 @@ ghost use Rattle.std.specs.List.{zip};
 ghost use Rattle.std.specs.Option.{option_copied};
 ghost use Rattle.cwr_records.specs.Lines.{fill_field};
 ghost use Rattle.cwr_files.specs.Transaction.{title_of, first_work, submitter_number};
-ghost use Rattle.ack_files.specs.Acknowledgement.{acknowledgement, ack_body, ack_group_header, ack_group_trailer, ack_header, ack_lines, ack_record, ack_trailer, has_transactions, recipient_number, status_of};
+ghost use Rattle.ack_files.specs.Acknowledgement.{acknowledgement_file, ack_body, ack_group_header, ack_group_trailer, ack_header, ack_lines, ack_record, ack_trailer, has_transactions, recipient_number, status_of};
 ghost use Rattle.ack_files.specs.Lines.{header_line, group_header_line, acknowledgement_line, group_trailer_line, trailer_line};
 
 use crate::lines::{
@@ -271,7 +271,7 @@ fn append_body(
 
 /// The acknowledgement file of a sender's transmission, with one verdict for each of its NWR and REV
 /// transactions, ordinals below 10^11 (the office's profile of CISAC CWR 2.2).
-#[tactic(auto, unfolding(crate::specs::Acknowledgement::acknowledgement))]
+#[tactic(auto, unfolding(crate::specs::Acknowledgement::acknowledgement_file))]
 pub fn write_ack(
     alloc: Global,
     office: &Office,
@@ -279,7 +279,7 @@ pub fn write_ack(
     transmission: &Transmission<'_>,
     verdicts: &[Verdict],
 ) -> Result<Vec<u8>, AllocError>
-    ensures { IfOk result (λ text. text.items ≡ acknowledgement office.now sender.now transmission.now verdicts.now) }
+    ensures { IfOk result (λ text. text.items ≡ acknowledgement_file office.now sender.now transmission.now verdicts.now) }
 {
     let mut text = Vec::new(alloc);
     append_ack_header(office, &transmission.header, &mut text)?;

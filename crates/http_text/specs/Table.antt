@@ -6,8 +6,8 @@ use Rattle.pool_split.specs.declared.claim.Credit.{Credit}
 use Rattle.work_ids.specs.Account.{account_text}
 
 -- the names of the columns
-abbrev pub column_names : List (List ℕ)
-column_names = codes "isrc" ∷ codes "account" ∷ codes "units" ∷ []
+abbrev pub credit_columns : List (List ℕ)
+credit_columns = codes "isrc" ∷ codes "account" ∷ codes "units" ∷ []
 
 -- an ISRC, or a hyphen where there is none
 abbrev pub isrc_field : Option (List ℕ) → List ℕ
@@ -24,4 +24,4 @@ credit_table_rows credits = flat_map (λ credit. row_text default_writer (credit
 
 -- the table of a pool: the names of the columns, and a row for each credit
 unfoldable pub table_text : List Credit → List ℕ
-table_text credits = row_text default_writer column_names ++ credit_table_rows credits
+table_text credits = row_text default_writer credit_columns ++ credit_table_rows credits

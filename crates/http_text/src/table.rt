@@ -2,7 +2,7 @@
 ghost use Rattle.std.specs.Prelude.{◌≡◌, map, IfOk, OnOk};
 ghost use Rattle.csv.specs.Writing.{default_writer, row_text};
 ghost use Rattle.work_ids.specs.Account.{account_text};
-ghost use Rattle.http_text.specs.Table.{column_names, credit_fields, isrc_field, table_text};
+ghost use Rattle.http_text.specs.Table.{credit_columns, credit_fields, isrc_field, table_text};
 ghost use Rattle.http_text.specs.Rows.{AddsRow, HasWrittenRows};
 
 use csv::{Writer, WriterBuilder};
@@ -58,7 +58,7 @@ fn put_credit(
 
 // Writes the names of the columns.
 fn new_table(alloc: Global) -> Result<Writer<Vec<u8>>, AllocError>
-    ensures { IfOk result (λ table. HasWrittenRows table (row_text default_writer column_names)) }
+    ensures { IfOk result (λ table. HasWrittenRows table (row_text default_writer credit_columns)) }
 {
     let mut table = WriterBuilder::new().from_writer(Vec::new(alloc));
     put_row(&mut table, &[b"isrc", b"account", b"units"])?;

@@ -2,7 +2,7 @@
 use Rattle.std.specs.Prelude.{ℕ, ◌≡◌, List, Option, Some, Vec, option_map}
 use Rattle.std.specs.List.{slice_get}
 use Rattle.std.specs.declared.alloc.Global.{Global}
-use Rattle.ack_files.specs.Acknowledgement.{acknowledgement}
+use Rattle.ack_files.specs.Acknowledgement.{acknowledgement_file}
 use Rattle.cwr_files.specs.Contents.{transactions_of}
 use Rattle.pool_split.specs.declared.claim.Credit.{Credit}
 use Rattle.share_rules.specs.declared.office.Office.{Office}
@@ -17,7 +17,7 @@ use Rattle.works_core.specs.declared.version.WorkVersion.{WorkVersion}
 
 -- the acknowledgement of the transmission that is kept, with these verdicts
 abbrev pub IsAcknowledged : Office → List ℕ → List Verdict → Option (List ℕ) → Option (Vec ℕ Global) → Type 0
-IsAcknowledged office sender verdicts kept text = items_of text ≡ Some (acknowledgement office sender (transmission_kept kept) verdicts)
+IsAcknowledged office sender verdicts kept text = items_of text ≡ Some (acknowledgement_file office sender (transmission_kept kept) verdicts)
 
 -- the credits of a pool, none where it is not closed
 abbrev pub AreCredits : Office → Book → ℕ → Option (Vec Credit Global) → Type 0

@@ -18,7 +18,7 @@ use Rattle.works_core.specs.declared.verdict.Verdict.{Verdict}
 use Rattle.works_core.specs.Line.{NumberedTransmission, line_of, verdicts_at}
 use Rattle.works_core.specs.Versions.{work_at}
 use Rattle.works_core.specs.declared.version.WorkVersion.{WorkVersion}
-use Rattle.ack_files.specs.Acknowledgement.{acknowledgement}
+use Rattle.ack_files.specs.Acknowledgement.{acknowledgement_file}
 use Rattle.sender_segments.specs.Ways.{AreRight, End, IsWithinEnd, LeadToYears, StatedEnds, greatest_passing, is_reached, numbers_up_to}
 use Rattle.society_core.specs.Keys.{return_cmp, segment_cmp, segment_key, transmission_cmp, transmission_key}
 use Rattle.society_core.specs.Orders.{IsOrder, Order, names_return}
@@ -181,7 +181,7 @@ shown_verdicts office book sender n = if is_in_line book sender n then Some (ver
 -- the acknowledgement of a sender's transmission n: there once n is in the line (profile)
 abbrev pub ack : Office → Book → List ℕ → ℕ → Option (List ℕ)
 ack office book sender n =
-    if is_in_line book sender n then Some (acknowledgement office sender (transmission_in (unwrap_or (body_at book sender n) [])) (verdicts_in office book sender n)) else None
+    if is_in_line book sender n then Some (acknowledgement_file office sender (transmission_in (unwrap_or (body_at book sender n) [])) (verdicts_in office book sender n)) else None
 
 -- the numbers of a sender's held transmissions: those that are not in its line, ascending (profile)
 abbrev pub held : Book → List ℕ → List ℕ

@@ -6,7 +6,7 @@ use Rattle.std.proofs.lemmas.Bool.{cases_Bool}
 use Rattle.std.proofs.lemmas.Bool.Decides.{nat_tests}
 use Rattle.cwr_files.specs.Contents.{transmission_in, transactions_of}
 use Rattle.share_rules.specs.declared.office.Office.{Office}
-use Rattle.ack_files.specs.Acknowledgement.{acknowledgement}
+use Rattle.ack_files.specs.Acknowledgement.{acknowledgement_file}
 use Rattle.works_core.specs.Line.{NumberedTransmission, line_of, verdicts_at}
 use Rattle.works_core.specs.Numbered.{JudgedTransmission, has_number, up_to}
 use Rattle.works_core.specs.Versions.{Placed, is_version, last_version, placed_at, placed_behind, placed_behind_all, placed_line, version_of, work_at}
@@ -120,7 +120,7 @@ verdicts_alike o a b s n alike = ap (λ (verdicts : Option (List Verdict)). show
 
 ack_alike : (o : Office) (a b : Book) (s : List ℕ) (n : ℕ) → AlikeToTheGap a b s → ack o a s n ≡ ack o b s n
 ack_alike o a b s n alike =
-    let text = λ (body : Option (List ℕ)) (ts : List NumberedTransmission). Some (acknowledgement o s (transmission_in (unwrap_or body [])) (verdicts_at (line_of o ts) n)) in
+    let text = λ (body : Option (List ℕ)) (ts : List NumberedTransmission). Some (acknowledgement_file o s (transmission_in (unwrap_or body [])) (verdicts_at (line_of o ts) n)) in
     chosen_alike (is_in_line a s n) (text (body_at a s n) (transmissions_to a s n)) (text (body_at b s n) (transmissions_to b s n)) None
     (λ is. ap (λ (body : Option (List ℕ)). text body (transmissions_to a s n)) (alike.same_bodies n is) ∙ ap (text (body_at b s n)) (alike_to a b s n alike))
     ∙ ap (λ (ns : List ℕ). cond (is_one_of ns n) (text (body_at b s n) (transmissions_to b s n)) None) alike.same_line

@@ -1,5 +1,5 @@
 use Rattle.std.proofs.Common.{List, Option, Some, None, Ok, Vec, Global, ap, sym, ◌∙◌, option_map, [], unwrap_or}
-use Rattle.ack_files.specs.Acknowledgement.{acknowledgement}
+use Rattle.ack_files.specs.Acknowledgement.{acknowledgement_file}
 use Rattle.cwr_files.specs.Contents.{transmission_in}
 use Rattle.society_core.specs.Book.{body_at}
 use Rattle.society_book.proofs.lemmas.shown.AckRows.{acknowledged, not_acknowledged}
@@ -22,7 +22,7 @@ returns g c =
           (rw c.as_bytes.ensures.bytes at c.in_ok-verdicts.ensures.asked) (rw c.value.ensures.value at c.acknowledgement_of.ensures.asked)
           (λ y judged text b holds.
           acknowledged o b s n c.in-Some.verdicts.items _ (sym (ap items_of c.in-Some.is) ∙ judged o b holds)
-          (text o b holds ∙ ap (λ (vs : List Verdict). Some (acknowledgement o s (transmission_in (unwrap_or (body_at b s n) [])) vs)) c.as_slice.ensures.value));
+          (text o b holds ∙ ap (λ (vs : List Verdict). Some (acknowledgement_file o s (transmission_in (unwrap_or (body_at b s n) [])) vs)) c.as_slice.ensures.value));
     }
 
 pub returns-in_default : goal.returns-in_default
