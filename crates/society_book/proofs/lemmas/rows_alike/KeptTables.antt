@@ -1,5 +1,5 @@
 -- Tables that stay as they are, one by one.
-use Rattle.std.proofs.Common.{◌≡◌, ◌≢◌, ◌∙◌, ◌==◌, ℕ, false, ◌++◌, [], ◌∷◌, List, ap, map, sym, subst, IsPermutation, ◌+◌}
+use Rattle.std.proofs.Common.{◌≡◌, ◌≢◌, ◌∙◌, ◌==◌, ℕ, false, ◌++◌, [], ◌∷◌, List, ap, map, sym, subst, IsPermutation}
 use Rattle.std.specs.List.{AllByRecursion, list_any}
 use Rattle.sqlite_schema.specs.declared.schema.Table.{Table}
 use Rattle.sqlite_trees.specs.Tree.{Trees}
