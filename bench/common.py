@@ -144,10 +144,15 @@ def works_file(first, count, sender=SENDER, number=plain_number):
     return b"\r\n".join([b"HDR" + sender.encode() + FIRST_LINES[0][14:], FIRST_LINES[1], lines]) + ends
 
 
-def plays(number, count, first=0):
-    """A return's body: a row for each recording from the first one on, with plays and seconds that depend on the return's number."""
-    rows = ((isrc(k), (k * 7 + number) % 1_000 + 1, (k + number * 13) % 300 + 60) for k in range(first, first + count))
+def plays_of(number, recordings):
+    """A return's body: a row for each of these recordings, with plays and seconds that depend on the return's number."""
+    rows = ((isrc(k), (k * 7 + number) % 1_000 + 1, (k + number * 13) % 300 + 60) for k in recordings)
     return CSV_HEADER + b"".join(b"%s,%d,%d\n" % it for it in rows)
+
+
+def plays(number, count, first=0):
+    """The same of the recordings from the first one on."""
+    return plays_of(number, range(first, first + count))
 
 
 # The program over standard input.

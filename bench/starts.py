@@ -14,12 +14,13 @@ import tempfile
 
 import common
 import old_files
-from common import OFFICE, SENDER, filled, order_body, plays, works_file
+from common import OFFICE, SENDER, filled, order_body, plays, plays_of, works_file
 from growth import exponent, in_turn, sender
 
 MANY = 100  # senders of an office of files of one work
 CUT = 21  # senders of a pool's cut
 PLAYED = 20  # recordings of a return
+WIDE = 100  # recordings of a return from all over a line
 
 
 def empty_file(name):
@@ -50,6 +51,14 @@ def pools_of_no_cut(works, pools):
         yield f"/v1/pools/{n}", order_body(1_000_000, [], [["RADIO1", n]])
 
 
+def pools_of_full_files(works, pools):
+    """Full files, and pools of the whole line, each with a return of recordings from all over it."""
+    yield from full_files(works)
+    for n in range(1, pools + 1):
+        yield f"/v1/returns/RADIO1/{n}", plays_of(n, range(n, works, works // WIDE))
+        yield f"/v1/pools/{n}", order_body(1_000_000, [[SENDER, works // 800]], [["RADIO1", n]])
+
+
 def files_of_one_work(works):
     """Files of one work that 100 senders send in turn."""
     for name, number, body in in_turn(works, MANY):
@@ -70,6 +79,7 @@ def pools_of_works(works, pools):
 CASES = {
     "pools of 50 cuts, no return": ((2_000, 8_000), lambda n: pools_of_cuts(n, 50), None, None),
     "40,000 works, 200 pools of no cut": ((10_000, 40_000), lambda n: pools_of_no_cut(n, 200), full_files, 200),
+    "full files, 100 pools of 100 recordings of all of them": ((8_000, 32_000), lambda n: pools_of_full_files(n, 100), full_files, 100),
     "works, pools of 21 cuts and 20 recordings": ((10_000, 40_000), lambda n: pools_of_works(n, 200), files_of_one_work, 200),
     "files of one work of 100 senders, layout 3": ((25_000, 100_000), files_of_one_work, None, None),
     "files of one work of 100 senders, layout 2": ((25_000, 100_000), files_of_one_work, None, None),

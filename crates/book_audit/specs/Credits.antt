@@ -18,11 +18,11 @@ use Rattle.society_book.specs.Columns.{whole_number_at}
 use Rattle.society_book.specs.DerivedRows.{credit_row}
 use Rattle.society_book.specs.Kept.{HoldsBook}
 use Rattle.society_closings.specs.Closings.{ListsOrder, PaysAmong}
-use Rattle.society_closings.specs.declared.works_by_recording.WorksByRecording.{WorksByRecording}
+use Rattle.society_closings.specs.declared.pool_works.PoolWorks.{PoolWorks}
 
 -- the tables hold no book of this office in which this order closes a pool, where the works are listed that it looks for
-abbrev pub HasNoPool : Office → ℕ → Order → WorksByRecording → Trees → Type 0
-HasNoPool office pool order works db = ListsOrder order db works → (book : Book) → HoldsBook office book db → order_at book pool ≡ Some order → ⊥
+abbrev pub HasNoPool : Office → ℕ → Order → PoolWorks → Trees → Type 0
+HasNoPool office pool order works db = ListsOrder office order db works → (book : Book) → HoldsBook office book db → order_at book pool ≡ Some order → ⊥
 
 -- the lines of a pool's credits, from 0 on
 abbrev pub credit_lines : ℕ → List Credit → List Row
@@ -33,7 +33,7 @@ abbrev pub HasCredits : ℕ → List Credit → Trees → Type 0
 HasCredits pool credits db = (rows : List Row) × Lists layout.credits_table (has_key (Int (pos pool) ∷ [])) 2 db rows × (rows ≡ credit_lines pool credits)
 
 -- so are they, and these are the credits that the pool pays by the tables, where the works are listed that it looks for
-abbrev pub FindsCredits : Office → ℕ → Order → WorksByRecording → Trees → Vec Credit Global → Type 0
+abbrev pub FindsCredits : Office → ℕ → Order → PoolWorks → Trees → Vec Credit Global → Type 0
 FindsCredits office pool order works db credits = HasCredits pool credits.items db × PaysAmong office order works db credits.items
 
 -- the row begins with a whole number from 0, of 32 bits, that is the number of one of these pools

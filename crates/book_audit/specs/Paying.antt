@@ -21,7 +21,7 @@ use Rattle.society_book.specs.Sources.{HasEnds, HoldsWorks, KeepsBodies}
 use Rattle.society_closings.specs.Closings.{ListsOrder, is_reported}
 use Rattle.society_closings.specs.CutWorks.{Wants}
 use Rattle.society_closings.specs.declared.wanted.Wanted.{Wanted}
-use Rattle.society_closings.specs.declared.works_by_recording.WorksByRecording.{WorksByRecording}
+use Rattle.society_closings.specs.declared.pool_works.PoolWorks.{PoolWorks}
 use Rattle.book_audit.specs.Audited.{IsNumbered, IsRegistered}
 use Rattle.book_audit.specs.Balances.{ComesTo, HasBalances}
 use Rattle.book_audit.specs.Credits.{AreCreditsOf, HasCredits}
@@ -71,8 +71,8 @@ abbrev pub WantsAll : List ClosedPool → Trees → Wanted → Type 0
 WantsAll closed db wanted = AllByRecursion (λ (c : ClosedPool). WantsOrder c.order db wanted) closed
 
 -- the works are listed that each of these pools looks for
-abbrev pub ListsAll : List ClosedPool → Trees → WorksByRecording → Type 0
-ListsAll closed db works = AllByRecursion (λ (c : ClosedPool). ListsOrder c.order db works) closed
+abbrev pub ListsAll : Office → List ClosedPool → Trees → PoolWorks → Type 0
+ListsAll office closed db works = AllByRecursion (λ (c : ClosedPool). ListsOrder office c.order db works) closed
 
 -- these are the numbers of the pools
 abbrev pub AreNumbersOf : List ClosedPool → BTreeSet ℕ → Type 0

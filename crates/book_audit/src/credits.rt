@@ -13,7 +13,7 @@ use crate::alike::are_rows;
 use crate::reading::{ask, worked_out};
 use pool_split::Credit;
 use share_rules::Office;
-use society_closings::{WorksByRecording, credits_in, line_rows, texts_of};
+use society_closings::{PoolWorks, credits_in, line_rows, texts_of};
 use society_core::PoolOrder;
 use society_rows::{CreditRow, Question, RowFault};
 use sqlite::{Alter, Transaction};
@@ -27,7 +27,7 @@ pub fn paid_by<S: Alter>(
     tx: &mut Transaction<'_, S>,
     office: &Office,
     order: &PoolOrder,
-    works: &WorksByRecording,
+    works: &PoolWorks,
 ) -> Result<Vec<Credit>, AuditFault>
     ensures same_reference { tx.new.conn.ghost_name ≡ tx.old.conn.ghost_name }
     ensures examined { within S.Store tx.old tx.new (Examines (CannotPayAmong office.now order.now works.now)) result (λ db credits. PaysAmong office.now order.now works.now db credits.items) }
@@ -76,7 +76,7 @@ pub fn credits_agree<S: Alter>(
     office: &Office,
     pool: PoolNumber,
     order: &PoolOrder,
-    works: &WorksByRecording,
+    works: &PoolWorks,
 ) -> Result<Vec<Credit>, AuditFault>
     ensures same_reference { tx.new.conn.ghost_name ≡ tx.old.conn.ghost_name }
     ensures examined { within S.Store tx.old tx.new (Examines (HasNoPool office.now pool order.now works.now)) result (FindsCredits office.now pool order.now works.now) }

@@ -2,8 +2,9 @@
 ghost use Rattle.std.specs.Prelude.{◌≡◌, IfOk, OnOk};
 ghost use Rattle.book_audit.specs.Examining.{Examines, HoldsNot};
 ghost use Rattle.book_audit.specs.Paying.{AreNumbersOf, CannotPayAny, CompletesBook, DeniesPools, FindsPaid, FindsPools, LackPools, ListsAll, WantsAll, WantsOrder};
-ghost use Rattle.society_closings.specs.Blamed.{LackReturns};
+ghost use Rattle.society_closings.specs.Blamed.{HoldNoWorks, LackReturns};
 ghost use Rattle.society_closings.specs.CutWorks.{WantsMore};
+ghost use Rattle.society_closings.specs.Weighing.{AreWorksWeighed};
 ghost use Rattle.society_rows.specs.Between.{within};
 
 use crate::AuditFault;
@@ -13,8 +14,8 @@ use crate::credits::credits_agree;
 use crate::pool_orders::ClosedPool;
 use crate::standing::orders_in;
 use crate::totals::Totals;
-use share_rules::Office;
-use society_closings::{Wanted, WorksByRecording};
+use share_rules::{Kind, Office};
+use society_closings::{PoolWorks, Wanted};
 use society_core::PoolOrder;
 use sqlite::{Alter, Transaction};
 use std::alloc::{AllocError, Global};
@@ -51,18 +52,58 @@ fn wanted_by<S: Alter>(
     Ok(wanted)
 }
 
-/// The works that closed pools look for, found in one pass for all of them; `Damaged` where no book whose works the tables have can pay
-/// them, and `Memory` or `Store` where memory or the database failed.
+// Weighs the works of pools in a right, where one of them pays it; `Damaged` where the tables have the works of no book.
+fn weigh_in<S: Alter>(
+    alloc: Global,
+    tx: &mut Transaction<'_, S>,
+    office: &Office,
+    closed: &[ClosedPool],
+    kind: Kind,
+    wanted: &Wanted,
+    works: &mut PoolWorks,
+) -> Result<(), AuditFault>
+    ensures same_reference { tx.new.conn.ghost_name ≡ tx.old.conn.ghost_name }
+    ensures listed { OnOk result (works.new.listed ≡ works.old.listed) }
+    ensures examined { within S.Store tx.old tx.new (Examines HoldNoWorks) result (λ db _. AreWorksWeighed office.now db works.old → AreWorksWeighed office.now db works.new) }
+{
+    if !closed.iter().any(|one| one.order.kind() == kind) {
+        return Ok(());
+    }
+    Ok(works.weigh(alloc, tx, office, kind, wanted)?)
+}
+
+// Weighs the works of pools in each right that one of them pays; `Damaged` where the tables have the works of no book.
+fn weigh<S: Alter>(
+    alloc: Global,
+    tx: &mut Transaction<'_, S>,
+    office: &Office,
+    closed: &[ClosedPool],
+    wanted: &Wanted,
+    works: &mut PoolWorks,
+) -> Result<(), AuditFault>
+    ensures same_reference { tx.new.conn.ghost_name ≡ tx.old.conn.ghost_name }
+    ensures listed { OnOk result (works.new.listed ≡ works.old.listed) }
+    ensures examined { within S.Store tx.old tx.new (Examines HoldNoWorks) result (λ db _. AreWorksWeighed office.now db works.old → AreWorksWeighed office.now db works.new) }
+{
+    weigh_in(alloc, tx, office, closed, Kind::Performing, wanted, works)?;
+    weigh_in(alloc, tx, office, closed, Kind::Mechanical, wanted, works)
+}
+
+/// The works that closed pools look for, listed in one pass for all of them, and weighed once for all of them; `Damaged` where no book
+/// whose works the tables have can pay them, and `Memory` or `Store` where memory or the database failed.
 pub fn works_of<S: Alter>(
     alloc: Global,
     tx: &mut Transaction<'_, S>,
+    office: &Office,
     closed: &[ClosedPool],
-) -> Result<WorksByRecording, AuditFault>
+) -> Result<PoolWorks, AuditFault>
     ensures same_reference { tx.new.conn.ghost_name ≡ tx.old.conn.ghost_name }
-    ensures examined { within S.Store tx.old tx.new (Examines (CannotPayAny closed.now)) result (ListsAll closed.now) }
+    ensures examined { within S.Store tx.old tx.new (Examines (CannotPayAny closed.now)) result (ListsAll office.now closed.now) }
 {
     let wanted = wanted_by(alloc, tx, closed)?;
-    Ok(wanted.works(alloc, tx)?)
+    let mut works = PoolWorks::of(alloc, wanted.works(alloc, tx)?);
+    weigh(alloc, tx, office, closed, &wanted, &mut works)?;
+    Ok(works)
 }
 
 // What accounts have come to by closed pools, where the lines of their credits are what they pay out of works that are listed; else
@@ -72,11 +113,11 @@ fn totals_among<S: Alter>(
     tx: &mut Transaction<'_, S>,
     office: &Office,
     closed: &[ClosedPool],
-    works: &WorksByRecording,
+    works: &PoolWorks,
 ) -> Result<Totals, AuditFault>
     ensures same_reference { tx.new.conn.ghost_name ≡ tx.old.conn.ghost_name }
-    ensures examined { within S.Store tx.old tx.new (Examines (λ db. ListsAll closed.now db works.now → LackPools office.now closed.now db)) result
-        (λ db totals. ListsAll closed.now db works.now → FindsPaid office.now closed.now closed.now db totals) }
+    ensures examined { within S.Store tx.old tx.new (Examines (λ db. ListsAll office.now closed.now db works.now → LackPools office.now closed.now db)) result
+        (λ db totals. ListsAll office.now closed.now db works.now → FindsPaid office.now closed.now closed.now db totals) }
 {
     let mut totals = Totals::new(alloc);
     for one in closed {
@@ -96,7 +137,7 @@ fn totals_of<S: Alter>(
     ensures same_reference { tx.new.conn.ghost_name ≡ tx.old.conn.ghost_name }
     ensures examined { within S.Store tx.old tx.new (Examines (LackPools office.now closed.now)) result (FindsPaid office.now closed.now closed.now) }
 {
-    let works = works_of(alloc, tx, closed)?;
+    let works = works_of(alloc, tx, office, closed)?;
     totals_among(alloc, tx, office, closed, &works)
 }
 

@@ -15,7 +15,7 @@ use Rattle.society_rows.specs.Stored.{AreNumbered, KeepsOthers, rows_in}
 use Rattle.society_book.specs.Kept.{HoldsOwnBook}
 use Rattle.society_book.specs.Sources.{DerivesWorks, HoldsWorks}
 use Rattle.society_closings.specs.Closings.{PaysAmong}
-use Rattle.society_closings.specs.declared.works_by_recording.WorksByRecording.{WorksByRecording}
+use Rattle.society_closings.specs.declared.pool_works.PoolWorks.{PoolWorks}
 use Rattle.book_audit.specs.Balances.{ComesTo, HasBalances, balance_row}
 use Rattle.book_audit.specs.Credits.{credit_lines}
 use Rattle.book_audit.specs.OwnRows.{HoldsReached}
@@ -34,7 +34,7 @@ abbrev pub AddsCredits : ℕ → List Credit → Trees → Trees → Type 0
 AddsCredits pool credits = AddsLines (credit_lines pool credits)
 
 -- these are the credits that a pool pays by the tables, where the works are listed that it looks for, and their lines are added
-pub record WritesPool (office : Office) (pool : ℕ) (order : Order) (works : WorksByRecording) (old new : Trees) (credits : List Credit) : Type 0 where
+pub record WritesPool (office : Office) (pool : ℕ) (order : Order) (works : PoolWorks) (old new : Trees) (credits : List Credit) : Type 0 where
   pub pays : PaysAmong office order works old credits
   pub adds : AddsCredits pool credits old new
 
@@ -49,12 +49,12 @@ pub record WritesCredits (office : Office) (closed : List ClosedPool) (old new :
   pub comes : (book : Book) → HoldsWorks office book old → AreReachedIn book closed → ComesTo totals (credits_by office book closed)
 
 -- so where the works are listed that each of them looks for
-abbrev pub WritesListed : Office → List ClosedPool → WorksByRecording → Trees → Trees → Totals → Type 0
-WritesListed office closed works old new totals = ListsAll closed old works → WritesCredits office closed old new totals
+abbrev pub WritesListed : Office → List ClosedPool → PoolWorks → Trees → Trees → Totals → Type 0
+WritesListed office closed works old new totals = ListsAll office closed old works → WritesCredits office closed old new totals
 
 -- then the tables have the works of no book out of which each of these pools can be paid
-abbrev pub CannotPayListed : Office → List ClosedPool → WorksByRecording → Trees → Type 0
-CannotPayListed office closed works db = ListsAll closed db works → CannotPayAll office closed db
+abbrev pub CannotPayListed : Office → List ClosedPool → PoolWorks → Trees → Type 0
+CannotPayListed office closed works db = ListsAll office closed db works → CannotPayAll office closed db
 
 -- the balance of an account that has come to these units is added, and nothing else
 pub record AddsBalance (account : List ℕ) (units : ℕ) (old new : Trees) : Type 0 where

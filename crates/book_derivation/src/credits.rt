@@ -12,7 +12,7 @@ use crate::writing::wrote;
 use book_audit::{AuditFault, ClosedPool, Totals, paid_by, worked_out, works_of};
 use pool_split::Credit;
 use share_rules::Office;
-use society_closings::{WorksByRecording, line_rows, texts_of};
+use society_closings::{PoolWorks, line_rows, texts_of};
 use society_core::PoolOrder;
 use society_rows::{CreditRow, add_credits};
 use sqlite::{Alter, Transaction};
@@ -53,7 +53,7 @@ fn write_pool<S: Alter>(
     office: &Office,
     pool: PoolNumber,
     order: &PoolOrder,
-    works: &WorksByRecording,
+    works: &PoolWorks,
 ) -> Result<Vec<Credit>, AuditFault>
     ensures same_reference { tx.new.conn.ghost_name ≡ tx.old.conn.ghost_name }
     ensures derives { within S.Store tx.old tx.new (Derives (CannotPayAmong office.now order.now works.now)) result (λ before after credits. WritesPool office.now pool order.now works.now before after credits.items) }
@@ -69,7 +69,7 @@ fn write_each<S: Alter>(
     tx: &mut Transaction<'_, S>,
     office: &Office,
     closed: &[ClosedPool],
-    works: &WorksByRecording,
+    works: &PoolWorks,
 ) -> Result<Totals, AuditFault>
     ensures same_reference { tx.new.conn.ghost_name ≡ tx.old.conn.ghost_name }
     ensures derives { within S.Store tx.old tx.new (Derives (CannotPayListed office.now closed.now works.now)) result (WritesListed office.now closed.now works.now) }
@@ -94,6 +94,6 @@ pub(crate) fn write_credits<S: Alter>(
     ensures same_reference { tx.new.conn.ghost_name ≡ tx.old.conn.ghost_name }
     ensures derives { within S.Store tx.old tx.new (Derives (CannotPayAll office.now closed.now)) result (WritesCredits office.now closed.now) }
 {
-    let works = works_of(alloc, tx, closed)?;
+    let works = works_of(alloc, tx, office, closed)?;
     write_each(alloc, tx, office, closed, &works)
 }

@@ -14,9 +14,10 @@ use Rattle.society_core.specs.declared.transmission_key.TransmissionKey.{Transmi
 use Rattle.society_book.specs.Sources.{HoldsWorks}
 use Rattle.society_closings.specs.CutWorks.{ChoosesNaming, ListsWorks, NotesRecordings, notes_of_sender, wants_for}
 use Rattle.society_closings.specs.Closings.{ListsOrder}
+use Rattle.society_closings.specs.Weighing.{AreWorksWeighed}
 use Rattle.society_closings.specs.declared.chosen.Chosen.{Chosen}
 use Rattle.society_closings.specs.declared.named_works.NamedWorks.{NamedWorks}
-use Rattle.society_closings.specs.declared.works_by_recording.WorksByRecording.{WorksByRecording}
+use Rattle.society_closings.specs.declared.pool_works.PoolWorks.{PoolWorks}
 use Rattle.sqlite_trees.specs.Tree.{Trees}
 
 -- the tables have the works of no book
@@ -51,13 +52,13 @@ LackSenders office cut of_these named db =
     → list_all (λ key. notes_of_sender named key.sender) cut ≡ true → list_all (is_applied book) cut ≡ true → ⊥
 
 -- the tables have the works of no book in which the cut of an order is reached, where the works are listed that it looks for
-abbrev pub LackCut : Office → Order → Tally → WorksByRecording → Trees → Type 0
-LackCut office order tally works db = ListsWorks (wants_for order.cut (is_tallied tally)) db works → (book : Book) → HoldsWorks office book db → ReachesCut book order → ⊥
+abbrev pub LackCut : Office → Order → Tally → PoolWorks → Trees → Type 0
+LackCut office order tally works db = ListsWorks (wants_for order.cut (is_tallied tally)) db works.listed → (book : Book) → HoldsWorks office book db → ReachesCut book order → ⊥
 
 -- they have those of none in which this is the tally of the order's returns besides
-abbrev pub LackTallied : Office → Order → Tally → WorksByRecording → Trees → Type 0
+abbrev pub LackTallied : Office → Order → Tally → PoolWorks → Trees → Type 0
 LackTallied office order tally works db =
-    ListsWorks (wants_for order.cut (is_tallied tally)) db works → (book : Book) → HoldsWorks office book db → ReachesCut book order → Tallies tally (rows_named book order) → length (rows_named book order) ≤ 10000000 → ⊥
+    ListsWorks (wants_for order.cut (is_tallied tally)) db works.listed → AreWorksWeighed office db works → (book : Book) → HoldsWorks office book db → ReachesCut book order → Tallies tally (rows_named book order) → length (rows_named book order) ≤ 10000000 → ⊥
 
 -- a tally and candidates are those of an order in no book
 abbrev pub BelongNowhere : Tally → List Candidate → Order → Type 0
@@ -70,5 +71,5 @@ abbrev pub CannotPay : Office → Order → Trees → Type 0
 CannotPay office order db = (book : Book) → HoldsWorks office book db → CanBePaid book order → ⊥
 
 -- so where the works are listed that the order looks for
-abbrev pub CannotPayAmong : Office → Order → WorksByRecording → Trees → Type 0
-CannotPayAmong office order works db = ListsOrder order db works → CannotPay office order db
+abbrev pub CannotPayAmong : Office → Order → PoolWorks → Trees → Type 0
+CannotPayAmong office order works db = ListsOrder office order db works → CannotPay office order db

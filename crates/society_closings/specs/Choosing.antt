@@ -3,8 +3,6 @@ use Rattle.std.specs.Prelude.{ℕ, ◌++◌, ◌≡◌, ◌≤◌, ◌||◌, Boo
 use Rattle.std.specs.List.{list_all, list_any}
 use Rattle.std.specs.declared.alloc.Global.{Global}
 use Rattle.cwr_files.specs.Contents.{transactions_of, transmission_in}
-use Rattle.cwr_files.specs.Transaction.{number_of_work}
-use Rattle.cwr_files.specs.declared.transmission.Transaction.{Transaction}
 use Rattle.perf_returns.specs.Returns.{performances_in}
 use Rattle.perf_returns.specs.declared.performance.Performance.{Performance}
 use Rattle.pool_split.specs.declared.claim.Credit.{Credit}
@@ -15,9 +13,9 @@ use Rattle.sqlite_value.specs.Order.{Row}
 use Rattle.society_rows.specs.declared.fault.RowFault.{RowFault}
 use Rattle.society_core.specs.Book.{Book, is_applied, is_one_of, numbers_to, version_in}
 pub use Rattle.society_core.specs.Candidates.{AddsWorks, AreFor}
-use Rattle.society_core.specs.Candidates.{ReachesCut, rows_of_return, transactions_sent, work_where}
+use Rattle.society_core.specs.Candidates.{ReachesCut, rows_of_return, transactions_sent}
 use Rattle.society_core.specs.Orders.{Order}
-use Rattle.society_core.specs.Owners.{CutWork, versions_at_cut, versions_of_transmission, works_of_cut}
+use Rattle.society_core.specs.Owners.{versions_at_cut, versions_of_transmission, works_of_cut}
 use Rattle.society_core.specs.Points.{Tallies, is_tallied, rows_named}
 use Rattle.society_core.specs.Pools.{credits_of}
 use Rattle.society_core.specs.declared.candidates.Weighing.{Weighing}
@@ -25,42 +23,48 @@ use Rattle.society_core.specs.declared.claim_list.Candidate.{Candidate}
 use Rattle.society_core.specs.declared.return_key.ReturnKey.{ReturnKey}
 use Rattle.society_core.specs.declared.points.Tally.{Tally}
 use Rattle.society_core.specs.declared.transmission_key.TransmissionKey.{TransmissionKey}
-use Rattle.society_closings.specs.CutWorks.{Chooses, ChoosesNaming, ListsWorks, NotesRecordings, is_chosen, notes_of_sender, wants_for, works_chosen}
+use Rattle.society_closings.specs.CutWorks.{Chooses, ChoosesNaming, ListsWorks, NotesRecordings, notes_of_sender, wants_for, works_chosen}
 use Rattle.society_book.specs.Shown.{ShowBody}
 use Rattle.society_book.specs.Sources.{HoldsWorks}
 use Rattle.society_closings.specs.declared.chosen.Chosen.{Chosen}
 use Rattle.society_closings.specs.declared.named_works.NamedWorks.{NamedWorks}
-use Rattle.society_closings.specs.declared.works_by_recording.WorksByRecording.{WorksByRecording}
+use Rattle.society_closings.specs.Weighing.{AreLent, AreWorksWeighed}
+use Rattle.society_closings.specs.declared.pool_works.PoolWorks.{PoolWorks}
+use Rattle.society_closings.specs.declared.weighed_works.WeighedWorks.{WeighedWorks}
 use Rattle.works_core.specs.declared.version.WorkVersion.{WorkVersion}
 
+-- what is lent of versions that are weighed is so for the recordings of a tally
+abbrev pub IsLent : Weighing → Trees → Option WeighedWorks → Type 0
+IsLent weighing db weighed = AreLent weighing.kind weighing.office.now (is_tallied weighing.tally.now) db weighed
+
 -- the candidates of the versions at a sender's cut are added that stand in one transmission
-abbrev pub AddsOfTransmission : Weighing → TransmissionKey → ℕ → Chosen → List Candidate → List Candidate → Trees → Type 0
-AddsOfTransmission weighing key number chosen old new db =
-    (book : Book) → HoldsWorks weighing.office.now book db → is_one_of (numbers_to book key.sender key.number) number ≡ true → ChoosesNaming weighing.office.now book key (is_tallied weighing.tally.now) chosen
+abbrev pub AddsOfTransmission : Weighing → TransmissionKey → ℕ → Chosen → Option WeighedWorks → List Candidate → List Candidate → Trees → Type 0
+AddsOfTransmission weighing key number chosen weighed old new db =
+    (book : Book) → HoldsWorks weighing.office.now book db → IsLent weighing db weighed → is_one_of (numbers_to book key.sender key.number) number ≡ true → ChoosesNaming weighing.office.now book key (is_tallied weighing.tally.now) chosen
     → AddsWorks weighing (versions_of_transmission weighing.office.now book key number (transactions_sent book key.sender number)) old new
 
 -- the candidates of the versions at a sender's cut are added, by those that are chosen
-abbrev pub AddsChosen : Weighing → TransmissionKey → Chosen → List Candidate → List Candidate → Trees → Type 0
-AddsChosen weighing key chosen old new db =
-    (book : Book) → HoldsWorks weighing.office.now book db → ChoosesNaming weighing.office.now book key (is_tallied weighing.tally.now) chosen → AddsWorks weighing (versions_at_cut weighing.office.now book key) old new
+abbrev pub AddsChosen : Weighing → TransmissionKey → Chosen → Option WeighedWorks → List Candidate → List Candidate → Trees → Type 0
+AddsChosen weighing key chosen weighed old new db =
+    (book : Book) → HoldsWorks weighing.office.now book db → IsLent weighing db weighed → ChoosesNaming weighing.office.now book key (is_tallied weighing.tally.now) chosen → AddsWorks weighing (versions_at_cut weighing.office.now book key) old new
 
 -- the candidates of the versions at a sender's cut are added, by the works that are noted
-abbrev pub AddsOfSender : Weighing → TransmissionKey → NamedWorks → List Candidate → List Candidate → Trees → Type 0
-AddsOfSender weighing key named old new db =
-    (book : Book) → HoldsWorks weighing.office.now book db → NotesRecordings db (is_tallied weighing.tally.now) named → notes_of_sender named key.sender ≡ true → is_applied book key ≡ true
+abbrev pub AddsOfSender : Weighing → TransmissionKey → NamedWorks → Option WeighedWorks → List Candidate → List Candidate → Trees → Type 0
+AddsOfSender weighing key named weighed old new db =
+    (book : Book) → HoldsWorks weighing.office.now book db → IsLent weighing db weighed → NotesRecordings db (is_tallied weighing.tally.now) named → notes_of_sender named key.sender ≡ true → is_applied book key ≡ true
     → AddsWorks weighing (versions_at_cut weighing.office.now book key) old new
 
 -- they are the candidates of the versions at each key of a cut, by the works that are noted
-abbrev pub AreForCut : Kind → Office → Tally → List TransmissionKey → NamedWorks → Trees → List Candidate → Type 0
-AreForCut kind office tally cut named db candidates =
-    (book : Book) → HoldsWorks office book db → NotesRecordings db (is_tallied tally) named
+abbrev pub AreForCut : Weighing → List TransmissionKey → NamedWorks → Option WeighedWorks → Trees → List Candidate → Type 0
+AreForCut weighing cut named weighed db candidates =
+    (book : Book) → HoldsWorks weighing.office.now book db → IsLent weighing db weighed → NotesRecordings db (is_tallied weighing.tally.now) named
     → list_all (λ key. notes_of_sender named key.sender) cut ≡ true → list_all (is_applied book) cut ≡ true
-    → AreFor kind office tally (flat_map (versions_at_cut office book) cut) candidates
+    → AreFor weighing.kind weighing.office.now weighing.tally.now (flat_map (versions_at_cut weighing.office.now book) cut) candidates
 
 -- they are the candidates of the works of an order's cut, where the works are listed that it looks for
-abbrev pub AreForOrder : Kind → Office → Tally → Order → WorksByRecording → Trees → List Candidate → Type 0
+abbrev pub AreForOrder : Kind → Office → Tally → Order → PoolWorks → Trees → List Candidate → Type 0
 AreForOrder kind office tally order works db candidates =
-    ListsWorks (wants_for order.cut (is_tallied tally)) db works → (book : Book) → HoldsWorks office book db → ReachesCut book order → AreFor kind office tally (works_of_cut office book order) candidates
+    ListsWorks (wants_for order.cut (is_tallied tally)) db works.listed → AreWorksWeighed office db works → (book : Book) → HoldsWorks office book db → ReachesCut book order → AreFor kind office tally (works_of_cut office book order) candidates
 
 -- the version of one work more is chosen, by which it stands at a cut
 abbrev pub ChoosesMore : {E : Type 0} → List ℕ → Option WorkVersion → Chosen → Result (Unit {0}) E → Chosen → Type 0
@@ -102,9 +106,9 @@ TalliesOrder order db tally =
     (office : Office) (book : Book) → HoldsWorks office book db → Tallies tally (rows_named book order) × (length (rows_named book order) ≤ 10000000)
 
 -- by this tally of its returns an order pays these credits, where the works are listed that it looks for
-abbrev pub PaysTallied : Office → Order → Tally → WorksByRecording → Trees → List Credit → Type 0
+abbrev pub PaysTallied : Office → Order → Tally → PoolWorks → Trees → List Credit → Type 0
 PaysTallied office order tally works db credits =
-    ListsWorks (wants_for order.cut (is_tallied tally)) db works → (book : Book) → HoldsWorks office book db → ReachesCut book order → Tallies tally (rows_named book order) → credits ≡ credits_of office book order
+    ListsWorks (wants_for order.cut (is_tallied tally)) db works.listed → AreWorksWeighed office db works → (book : Book) → HoldsWorks office book db → ReachesCut book order → Tallies tally (rows_named book order) → credits ≡ credits_of office book order
 
 -- by the tally of an order's returns and its candidates it has these credits
 abbrev pub PaysByTally : Tally → List Candidate → Order → Result (Vec Credit Global) RowFault → Type 0
@@ -123,7 +127,3 @@ abbrev pub AddsShown : Weighing → List Row → List ℕ → ℕ → Chosen →
 AddsShown weighing rows sender number chosen old new result =
     (kept : Option (List ℕ)) → ShowBody kept rows
     → OnOk result (AddsWorks weighing (works_chosen chosen sender number 0 (transactions_of (transmission_in (unwrap_or kept [])))) old new)
-
--- the work of a transaction, where it is the version that is chosen of its work
-abbrev pub work_chosen : Chosen → List ℕ → ℕ → ℕ → Transaction → List CutWork
-work_chosen chosen sender number place transaction = work_where (is_chosen chosen number place (number_of_work transaction)) sender transaction

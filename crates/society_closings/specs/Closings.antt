@@ -21,7 +21,8 @@ use Rattle.society_book.specs.Sources.{HoldsWorks}
 use Rattle.society_book.specs.DerivedRows.{balance_rows_by, credit_row}
 use Rattle.society_book.specs.Kept.{HoldsBook}
 use Rattle.society_closings.specs.CutWorks.{ListsWorks, wants_for}
-use Rattle.society_closings.specs.declared.works_by_recording.WorksByRecording.{WorksByRecording}
+use Rattle.society_closings.specs.Weighing.{AreWorksWeighed}
+use Rattle.society_closings.specs.declared.pool_works.PoolWorks.{PoolWorks}
 use Rattle.sqlite.specs.Effect.{Database}
 use Rattle.work_ids.specs.Account.{account_text}
 use Rattle.society_rows.specs.Balances.{AddsUnits}
@@ -88,13 +89,14 @@ PaysBy office order db credits = (book : Book) → HoldsWorks office book db →
 abbrev pub is_reported : Book → Order → List ℕ → Bool
 is_reported book order isrc = list_any (is_performance_of isrc) (rows_named book order)
 
--- the works are listed that an order looks for, by each book whose works the tables have
-abbrev pub ListsOrder : Order → Trees → WorksByRecording → Type 0
-ListsOrder order db works = (office : Office) (book : Book) → HoldsWorks office book db → ListsWorks (wants_for order.cut (is_reported book order)) db works
+-- the works are listed that an order looks for, by each book whose works the tables have, and what is weighed of them is so at this office
+abbrev pub ListsOrder : Office → Order → Trees → PoolWorks → Type 0
+ListsOrder office order db works =
+    ((other : Office) (book : Book) → HoldsWorks other book db → ListsWorks (wants_for order.cut (is_reported book order)) db works.listed) × AreWorksWeighed office db works
 
 -- where these are listed, the order pays these credits by the tables
-abbrev pub PaysAmong : Office → Order → WorksByRecording → Trees → List Credit → Type 0
-PaysAmong office order works db credits = ListsOrder order db works → PaysBy office order db credits
+abbrev pub PaysAmong : Office → Order → PoolWorks → Trees → List Credit → Type 0
+PaysAmong office order works db credits = ListsOrder office order db works → PaysBy office order db credits
 
 -- tables of an office that held a book in which a pool is not closed, and in which nothing refuses its order, hold the book with the pool
 abbrev pub ClosesPool : Office → ℕ → Order → Trees → Trees → Type 0

@@ -3,3 +3,4 @@ pub mod Choosing
 pub mod Closings
 pub mod CutWorks
 pub mod Readable
+pub mod Weighing

@@ -10,12 +10,16 @@ mod closings;
 mod cut_works;
 mod named_works;
 mod paying;
+mod pool_works;
 mod totals;
 mod wanted;
+mod weighed_works;
+mod weighing;
 mod works_by_recording;
 
 pub use closings::{line_rows, texts_of};
 pub use cut_works::candidates_in;
 pub use paying::{close, credits_in};
+pub use pool_works::PoolWorks;
 pub use wanted::Wanted;
 pub use works_by_recording::WorksByRecording;

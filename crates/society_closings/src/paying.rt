@@ -14,8 +14,8 @@ ghost use Rattle.society_closings.specs.Choosing.{PaysByTally, PaysTallied, Tall
 
 use crate::closings::write_pool;
 use crate::cut_works::candidates_in;
+use crate::pool_works::PoolWorks;
 use crate::wanted::Wanted;
-use crate::works_by_recording::WorksByRecording;
 use perf_returns::{ReturnError, read_return};
 use pool_split::{Credit, are_payable, credits};
 use share_rules::Office;
@@ -103,7 +103,7 @@ fn credits_for<S: Alter>(
     office: &Office,
     order: &PoolOrder,
     tally: &Tally,
-    works: &WorksByRecording,
+    works: &PoolWorks,
 ) -> Result<Vec<Credit>, RowFault>
     ensures same_reference { tx.new.conn.ghost_name ≡ tx.old.conn.ghost_name }
     ensures looks { within S.Store tx.old tx.new Looks result (λ db credits. PaysTallied office.now order.now tally.now works.now db credits.items) }
@@ -121,7 +121,7 @@ pub fn credits_in<S: Alter>(
     tx: &mut Transaction<'_, S>,
     office: &Office,
     order: &PoolOrder,
-    works: &WorksByRecording,
+    works: &PoolWorks,
 ) -> Result<Vec<Credit>, RowFault>
     ensures same_reference { tx.new.conn.ghost_name ≡ tx.old.conn.ghost_name }
     ensures looks { within S.Store tx.old tx.new Looks result (λ db credits. PaysAmong office.now order.now works.now db credits.items) }
@@ -145,7 +145,7 @@ fn credits_of_order<S: Alter>(
 {
     let mut wanted = Wanted::new(alloc);
     let tally = wanted.add_order(alloc, tx, order)?;
-    let works = wanted.works(alloc, tx)?;
+    let works = PoolWorks::of(alloc, wanted.works(alloc, tx)?);
     credits_for(alloc, tx, office, order, &tally, &works)
 }
 

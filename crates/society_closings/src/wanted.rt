@@ -93,6 +93,11 @@ impl Wanted {
         Ok(tally)
     }
 
+    // The recordings, ascending.
+    pub(crate) fn recordings(&self, alloc: Global) -> Result<Vec<Isrc>, AllocError> {
+        self.recordings.iter().copied().collect(alloc)
+    }
+
     // The senders, ascending.
     fn senders(&self, alloc: Global) -> Result<Vec<SenderKey>, AllocError>
         ensures { IfOk result (λ list. list.items ≡ self.now.senders.keys) }

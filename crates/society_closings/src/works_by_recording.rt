@@ -178,6 +178,15 @@ impl WorksByRecording {
         Ok(())
     }
 
+    /// The works that are listed, one after another.
+    pub(crate) fn works(&self, alloc: Global) -> Result<Vec<(SenderKey, WorkNumber)>, AllocError> {
+        let mut list = Vec::new(alloc);
+        for works in self.by_recording.values() {
+            list.extend_from_slice(works.as_slice())?;
+        }
+        Ok(list)
+    }
+
     /// The works of the senders of a cut that are listed under one of these recordings.
     pub(crate) fn named_works(
         &self,

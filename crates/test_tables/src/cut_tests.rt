@@ -7,7 +7,7 @@ use cwr_files::FileReader;
 use perf_returns::read_return;
 use share_rules::{Kind, Office};
 use society_arrivals::arrive;
-use society_closings::{Wanted, candidates_in};
+use society_closings::{PoolWorks, Wanted, candidates_in};
 use society_core::{Candidate, PoolOrder, Tally};
 use society_rows::{Found, Idle, OfficeRow, RowFault, create, layout_found};
 use sqlite::{Alter, Transaction};
@@ -65,20 +65,24 @@ fn fill<S: Alter>(alloc: Global, conn: &mut Idle<S>, office: &Office) -> Result<
     put_all(alloc, conn, office)
 }
 
-/// The candidates for the recordings of a tally, out of the works that an order looks for.
+/// The candidates for the recordings of a tally, out of the works that an order looks for; weighed beforehand in this right, if any.
 fn candidates_for<S: Alter>(
     alloc: Global,
     tx: &mut Transaction<'_, S>,
     office: &Office,
     tally: &Tally,
     order: &PoolOrder,
+    weighed: Option<Kind>,
 ) -> Result<Vec<Candidate>, RowFault>
     ensures { tx.new.conn.ghost_name ≡ tx.old.conn.ghost_name }
 {
     let recordings = tally.recordings(alloc)?;
     let mut wanted = Wanted::new(alloc);
     wanted.add(order.cut(), recordings.as_slice())?;
-    let works = wanted.works(alloc, tx)?;
+    let mut works = PoolWorks::of(alloc, wanted.works(alloc, tx)?);
+    if let Some(kind) = weighed {
+        works.weigh(alloc, tx, office, kind, &wanted)?;
+    }
     candidates_in(alloc, order.kind(), tx, office, tally, order, &works)
 }
 
@@ -88,6 +92,7 @@ fn found<S: Alter>(
     conn: &mut Idle<S>,
     office: &Office,
     cut: u64,
+    weighed: Option<Kind>,
 ) -> Result<Vec<Candidate>, Fail> {
     let (one, other) = (SenderKey::from_bytes(ONE)?, SenderKey::from_bytes(OTHER)?);
     let order = PoolOrder::new(alloc, Kind::Performing, 100, &[(one, cut), (other, 1)], &[]);
@@ -97,7 +102,7 @@ fn found<S: Alter>(
     let mut tally = Tally::new(alloc);
     tally.add_all(performances.rows.as_slice())?;
     let mut tx = conn.connection.transaction();
-    let candidates = candidates_for(alloc, &mut tx, office, &tally, &order);
+    let candidates = candidates_for(alloc, &mut tx, office, &tally, &order, weighed);
     tx.rollback();
     Ok(candidates.ok().ok_or("candidates")?)
 }
@@ -141,9 +146,11 @@ fn candidates_at_cuts(rt: HostRuntime) -> Result<(), Fail> {
     let mut conn = Idle { connection };
     fill(alloc, &mut conn, &office)?;
     for (row, cut, wanted) in CUTS {
-        let candidates = found(alloc, &mut conn, &office, cut)?;
-        let seen = shown(alloc, &candidates)?;
-        expect(&rt, row, &seen.as_str(), &wanted);
+        for weighed in [None, Some(Kind::Performing), Some(Kind::Mechanical)] {
+            let candidates = found(alloc, &mut conn, &office, cut, weighed)?;
+            let seen = shown(alloc, &candidates)?;
+            expect(&rt, row, &seen.as_str(), &wanted);
+        }
     }
     Ok(())
 }

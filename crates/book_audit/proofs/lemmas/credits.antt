@@ -2,3 +2,4 @@ pub mod CreditLines
 pub mod Finding
 pub mod FirstColumns
 pub mod Payable
+pub mod WorksListed

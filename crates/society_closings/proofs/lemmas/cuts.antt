@@ -10,3 +10,5 @@ pub mod WorksHeld
 pub mod ReadRows
 pub mod BodyRows
 pub mod FaultLemmas
+pub mod Weighed
+pub mod Lent

@@ -6,7 +6,7 @@ use Rattle.sqlite_trees.specs.Tree.{Trees}
 use Rattle.sqlite_value.specs.declared.value.Value.TheVariants.{Int}
 use Rattle.society_core.specs.Orders.{Order}
 use Rattle.society_closings.specs.Closings.{PaysAmong}
-use Rattle.society_closings.specs.declared.works_by_recording.WorksByRecording.{WorksByRecording}
+use Rattle.society_closings.specs.declared.pool_works.PoolWorks.{PoolWorks}
 use Rattle.society_rows.specs.Layout as layout
 use Rattle.society_rows.specs.Reads.{Lists, has_key}
 use Rattle.book_audit.specs.Credits.{HasCredits, HasNoPool, IsNot, credit_lines}
@@ -14,7 +14,7 @@ use Rattle.book_audit.specs.CreditSteps.{ListsOnly}
 use Rattle.book_audit.proofs.lemmas.credits.CreditLines.{credits_shown}
 use Rattle.book_audit.proofs.lemmas.credits.Payable.{payable}
 
-module _ (o : Office) (db : Trees) (pool : ℕ) (order : Order) (number : ℕ) (works : WorksByRecording) (credits paid : List Credit) (number_is : number ≡ pool) (same : credits ≡ paid) where
+module _ (o : Office) (db : Trees) (pool : ℕ) (order : Order) (number : ℕ) (works : PoolWorks) (credits paid : List Credit) (number_is : number ≡ pool) (same : credits ≡ paid) where
   -- where its lines are not always those of what it pays, there is no book with this pool
   pub no_pool : PaysAmong o order works db paid → IsNot (ListsOnly number (credit_lines number credits)) db → HasNoPool o pool order works db
   no_pool pays differ listed b holds is =

@@ -1,5 +1,5 @@
 -- What is derived of a sender's whole line, as the rows of a database have it.
-use Rattle.std.proofs.Common.{◌≡◌, ◌∙◌, ℕ, ℤ, pos, List, [], ◌∷◌, ap, ap₂, sym, subst, flat_map, map}
+use Rattle.std.proofs.Common.{◌≡◌, ◌∙◌, ℕ, pos, List, [], ◌∷◌, ap, ap₂, sym, subst, flat_map, map}
 use Rattle.std.proofs.lemmas.List.Concat.{flat_map_single}
 use Rattle.share_rules.specs.declared.office.Office.{Office}
 use Rattle.sqlite_keyed.proofs.ListLemmas.{flat_map-map, map-map}

@@ -25,8 +25,8 @@ loop-one-preserved g c =
     let one = c.one-item.result in
     let credits = c.in_ok-credits.credits in
     let works = c.args.works.now in
-    let Wrong : Trees → Type 0 = λ db. ListsAll closed db works → LackPools o closed db in
-    let here = each_here (λ (x : ClosedPool). ListsOrder x.order db works) closed i one c.loop-one-test.true c.one-item.is in
+    let Wrong : Trees → Type 0 = λ db. ListsAll o closed db works → LackPools o closed db in
+    let here = each_here (λ (x : ClosedPool). ListsOrder o x.order db works) closed i one c.loop-one-test.true c.one-item.is in
     record {
       same_reference = c.credits_agree.ensures.same_reference ∙ c.loop-one.invariant.same_reference;
       examined = examines_then Wrong (HasNoPool o one.pool one.order works) Wrong old mid new tt (Ok tt) _ (λ db (done : Unit {0}). FindsCredits o one.pool one.order works db credits) _ c.loop-one.invariant.examined
@@ -45,12 +45,12 @@ returns-in_err-credits-clause-examined g c =
     let works = c.args.works.now in
     let i = c.loop-one.one-index in
     let one = c.one-item.result in
-    let Wrong : Trees → Type 0 = λ db. ListsAll closed db works → LackPools o closed db in
-    let Finds : Trees → Totals → Type 0 = λ db totals. ListsAll closed db works → FindsPaid o closed closed db totals in
+    let Wrong : Trees → Type 0 = λ db. ListsAll o closed db works → LackPools o closed db in
+    let Finds : Trees → Totals → Type 0 = λ db totals. ListsAll o closed db works → FindsPaid o closed closed db totals in
     let Lacks : Trees → Type 0 = HasNoPool o one.pool one.order works in
     examines_then Wrong Lacks Wrong old mid new tt c.from_residual.result _ Finds Finds c.loop-one.invariant.examined
     (examines_not Lacks Lacks mid new c.in_err-credits.field-0.0 c.from_residual.result _ Finds c.in_err-credits.ensures.examined c.from_residual.ensures.1 (λ lacks. lacks))
     (λ totals before finds. finds)
     (λ before lacks listed book holds there.
-    lacks (each_here (λ (x : ClosedPool). ListsOrder x.order old.now.trees works) closed i one c.loop-one-test.true c.one-item.is listed) book holds
+    lacks (each_here (λ (x : ClosedPool). ListsOrder o x.order old.now.trees works) closed i one c.loop-one-test.true c.one-item.is listed) book holds
     (each_here (λ (x : ClosedPool). order_at book x.pool ≡ Some x.order) closed i one c.loop-one-test.true c.one-item.is there))

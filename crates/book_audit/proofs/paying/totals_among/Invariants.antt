@@ -8,6 +8,6 @@ use Rattle.book_audit.proofs.paying.totals_among.Given as goal
 abbrev pub invariant-loop-one : goal.invariant-loop-one
 invariant-loop-one g l = record {
   same_reference : l.tx.conn.ghost_name ≡ l.fn.tx.conn.ghost_name;
-  examined : Examines {X = Unit {0}} (λ db. ListsAll l.closed db l.works → LackPools l.office l.closed db) (state g.S.Store l.fn.tx.conn.now) (state g.S.Store l.tx.conn.now) (Ok tt)
-      (λ db _. ListsAll l.closed db l.works → FindsPaid l.office l.closed (take l.one-index l.closed) db l.totals);
+  examined : Examines {X = Unit {0}} (λ db. ListsAll l.office l.closed db l.works → LackPools l.office l.closed db) (state g.S.Store l.fn.tx.conn.now) (state g.S.Store l.tx.conn.now) (Ok tt)
+      (λ db _. ListsAll l.office l.closed db l.works → FindsPaid l.office l.closed (take l.one-index l.closed) db l.totals);
 }

@@ -1,4 +1,4 @@
-use Rattle.std.proofs.Common.{◌≡◌, ◌∙◌, List, Ok, subst, take}
+use Rattle.std.proofs.Common.{◌∙◌, List, Ok, subst, take}
 use Rattle.std.proofs.lemmas.List.{take_all}
 use Rattle.sqlite.specs.Held.{state}
 use Rattle.sqlite_trees.specs.Tree.{Trees}
@@ -8,7 +8,6 @@ use Rattle.book_audit.proofs.lemmas.orders.Steps.{each_here, each_more}
 use Rattle.book_audit.specs.Paying.{CannotPayAny, WantsAll, WantsOrder}
 use Rattle.book_audit.specs.declared.pool_orders.ClosedPool.{ClosedPool}
 use Rattle.society_closings.specs.Blamed.{LackReturns}
-use Rattle.society_closings.specs.declared.wanted.Wanted.{Wanted}
 use Rattle.society_core.specs.Candidates.{CanBePaid}
 use Rattle.book_audit.proofs.paying.wanted_by.Goals as goal
 

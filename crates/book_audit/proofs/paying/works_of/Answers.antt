@@ -1,41 +1,59 @@
-use Rattle.std.proofs.Common.{Ok}
+use Rattle.std.proofs.Common.{◌∙◌, Ok}
+use Rattle.std.specs.List.{AllByRecursion}
 use Rattle.sqlite.specs.Held.{state}
-use Rattle.sqlite_trees.specs.Tree.{Trees}
-use Rattle.sqlite_trees.proofs.ListLemmas.{all_weaker}
-use Rattle.book_audit.proofs.lemmas.Examinations.{examines_failed, examines_looks, examines_then}
-use Rattle.book_audit.specs.Paying.{CannotPayAny, ListsAll, WantsOrder}
-use Rattle.book_audit.specs.declared.pool_orders.ClosedPool.{ClosedPool}
-use Rattle.society_closings.proofs.lemmas.cuts.CutLists.{lists_fewer}
+use Rattle.book_audit.proofs.lemmas.Examinations.{examines_as, examines_failed, examines_not, examines_then}
+use Rattle.book_audit.proofs.lemmas.credits.WorksListed.{ListsIts, all_weighed, works_listed}
+use Rattle.book_audit.specs.Paying.{CannotPayAny, ListsAll}
 use Rattle.society_closings.specs.Blamed.{HoldNoWorks}
-use Rattle.society_closings.specs.Closings.{ListsOrder, is_reported}
-use Rattle.society_closings.specs.CutWorks.{ListsWorks, wants, wants_for}
+use Rattle.society_closings.specs.CutWorks.{ListsWorks, wants}
+use Rattle.society_closings.specs.Weighing.{AreWorksWeighed}
+use Rattle.society_closings.specs.declared.pool_works.PoolWorks.{PoolWorks}
 use Rattle.society_closings.specs.declared.works_by_recording.WorksByRecording.{WorksByRecording}
 use Rattle.book_audit.proofs.paying.works_of.Goals as goal
 
 pub returns-in_err-works-clause-examined : goal.returns-in_err-works-clause-examined
 returns-in_err-works-clause-examined g c =
+    let o = c.args.office.now in
     let closed = c.args.closed.now in
     let wanted = c.in_ok-wanted.wanted in
     let old = state g.S.Store c.args.tx.now.conn.now in
     let mid = state g.S.Store c.wanted_by.new.tx.conn.now in
     let new = state g.S.Store c.works.new.tx.conn.now in
     let r = c.from_residual-in_err-works.result in
-    examines_then (CannotPayAny closed) HoldNoWorks (CannotPayAny closed) old mid new wanted r _ (ListsAll closed) (ListsAll closed) c.in_ok-wanted.ensures.examined
-    (examines_failed {X = WorksByRecording} HoldNoWorks mid new c.in_err-works.field-0.0 r (ListsWorks (wants wanted)) (ListsAll closed) c.in_err-works.ensures.looks c.in_err-works.ensures.err c.from_residual-in_err-works.ensures.1)
+    examines_then (CannotPayAny closed) HoldNoWorks (CannotPayAny closed) old mid new wanted r _ (ListsAll o closed) (ListsAll o closed) c.in_ok-wanted.ensures.examined
+    (examines_failed {X = WorksByRecording} HoldNoWorks mid new c.in_err-works.field-0.0 r (ListsWorks (wants wanted)) (ListsAll o closed) c.in_err-works.ensures.looks c.in_err-works.ensures.err c.from_residual-in_err-works.ensures.1)
     (λ works asked lists. lists)
-    (λ asked no o b holds can. no o b holds)
+    (λ asked no other b holds can. no other b holds)
+
+pub returns-in_err-weigh-clause-examined : goal.returns-in_err-weigh-clause-examined
+returns-in_err-weigh-clause-examined g c =
+    let o = c.args.office.now in
+    let closed = c.args.closed.now in
+    let found = c.in_ok-works.field-0 in
+    let old = state g.S.Store c.args.tx.now.conn.now in
+    let mid = state g.S.Store c.works.new.tx.conn.now in
+    let new = state g.S.Store c.weigh.new.tx.conn.now in
+    let r = c.from_residual-in_err-weigh.result in
+    examines_then (CannotPayAny closed) HoldNoWorks (CannotPayAny closed) old mid new found r (λ db works. AllByRecursion (ListsIts db works) closed) (ListsAll o closed) (ListsAll o closed)
+    (works_listed closed old (state g.S.Store c.wanted_by.new.tx.conn.now) mid c.in_ok-wanted.wanted found c.in_ok-wanted.ensures.examined c.in_ok-works.ensures.looks)
+    (examines_not {X = Unit {0}} {Y = PoolWorks} HoldNoWorks HoldNoWorks mid new c.in_err-weigh.field-0.0 r (λ db _. AreWorksWeighed o db c.of-works.result → AreWorksWeighed o db c.weigh.new.works) (ListsAll o closed) c.in_err-weigh.ensures.examined c.from_residual-in_err-weigh.ensures.1 (λ no. no))
+    (λ works lists all. all)
+    (λ lists no other b holds can. no other b holds)
 
 pub returns-clause-examined : goal.returns-clause-examined
 returns-clause-examined g c =
+    let o = c.args.office.now in
     let closed = c.args.closed.now in
-    let wanted = c.in_ok-wanted.wanted in
-    let works = c.in_ok-works.field-0 in
+    let found = c.in_ok-works.field-0 in
+    let works = c.weigh.new.works in
     let old = state g.S.Store c.args.tx.now.conn.now in
-    let mid = state g.S.Store c.wanted_by.new.tx.conn.now in
-    let new = state g.S.Store c.works.new.tx.conn.now in
-    let db = old.now.trees in
-    examines_then (CannotPayAny closed) HoldNoWorks (CannotPayAny closed) old mid new wanted (Ok works) _ (ListsWorks (wants wanted)) (ListsAll closed) c.in_ok-wanted.ensures.examined
-    (examines_looks HoldNoWorks mid new works (ListsWorks (wants wanted)) c.in_ok-works.ensures.looks)
-    (λ found asked lists. all_weaker (λ (x : ClosedPool). WantsOrder x.order db wanted) (λ (x : ClosedPool). ListsOrder x.order db found)
-    (λ x asks o b holds. lists_fewer (wants wanted) (wants_for x.order.cut (is_reported b x.order)) db found (asks o b holds) lists) closed asked)
-    (λ asked no o b holds can. no o b holds)
+    let mid = state g.S.Store c.works.new.tx.conn.now in
+    let new = state g.S.Store c.weigh.new.tx.conn.now in
+    examines_as (CannotPayAny closed) (CannotPayAny closed) old new tt (Ok works) (λ db (done : Unit {0}). ListsAll o closed db works) (ListsAll o closed)
+    (examines_then (CannotPayAny closed) HoldNoWorks (CannotPayAny closed) old mid new found (Ok tt) (λ db listed. AllByRecursion (ListsIts db listed) closed) (λ db (done : Unit {0}). AreWorksWeighed o db c.of-works.result → AreWorksWeighed o db works) (λ db (done : Unit {0}). ListsAll o closed db works)
+    (works_listed closed old (state g.S.Store c.wanted_by.new.tx.conn.now) mid c.in_ok-wanted.wanted found c.in_ok-wanted.ensures.examined c.in_ok-works.ensures.looks)
+    c.in_ok-weigh.ensures.examined
+    (λ done lists weighs. all_weighed o closed old.now.trees found works (c.in_ok-weigh.ensures.listed ∙ c.of-works.ensures.listed) lists (weighs (c.of-works.ensures.none o old.now.trees)))
+    (λ lists no other b holds can. no other b holds))
+    (λ lists. lists)
+    (λ lists. tt)

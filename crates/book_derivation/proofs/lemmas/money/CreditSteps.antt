@@ -27,7 +27,7 @@ use Rattle.society_book.proofs.lemmas.rows_alike.KeptTables.{rows_kept}
 use Rattle.society_closings.specs.Blamed.{CannotPayAmong}
 use Rattle.society_closings.specs.Closings.{ListsOrder, PaysAmong, is_reported}
 use Rattle.society_closings.specs.CutWorks.{IsListed, wants_for}
-use Rattle.society_closings.specs.declared.works_by_recording.WorksByRecording.{WorksByRecording}
+use Rattle.society_closings.specs.declared.pool_works.PoolWorks.{PoolWorks}
 use Rattle.book_audit.specs.Balances.{ComesTo}
 use Rattle.book_audit.specs.Credits.{credit_lines}
 use Rattle.book_audit.specs.Paying.{AreReachedIn, CannotPayAll, ListsAll, credits_by}
@@ -63,12 +63,15 @@ others_back : (old new : Trees) → KeepsOthers layout.credits_table old new →
 others_back old new keeps =
     all_weaker (λ (t : Table). t.tree ≢ layout.credits_table.tree → new t.tree ≡ old t.tree) (λ (t : Table). t.tree ≢ layout.credits_table.tree → old t.tree ≡ new t.tree) (λ t same apart. sym (same apart)) all_tables keeps
 
--- and what an order looks for is listed still
-lists_on : (order : Order) (works : WorksByRecording) (old new : Trees) → KeepsOthers layout.credits_table old new → ListsOrder order old works → ListsOrder order new works
+-- and what an order looks for is listed still, and weighed still
+lists_on : (o : Office) (order : Order) (works : PoolWorks) (old new : Trees) → KeepsOthers layout.credits_table old new → ListsOrder o order old works → ListsOrder o order new works
 unfolding all_tables written_out
-lists_on order works old new keeps lists o b holds isrc right =
-    subst (AllByRecursion (λ row. wants_for order.cut (is_reported b order) (text_at 0 row) isrc ≡ true → has_at 3 (Text isrc) row ≡ true → IsListed works isrc row))
-    (sym (rows_kept layout.recordings old new (keeps.1.1.1.1.1.1.1.1.1.0 (λ e. omega (arith, e))))) (lists o b (works_on o b new old (others_back old new keeps) holds) isrc right)
+lists_on o order works old new keeps lists = (
+  λ other b holds isrc right.
+      subst (AllByRecursion (λ row. wants_for order.cut (is_reported b order) (text_at 0 row) isrc ≡ true → has_at 3 (Text isrc) row ≡ true → IsListed works.listed isrc row))
+      (sym (rows_kept layout.recordings old new (keeps.1.1.1.1.1.1.1.1.1.0 (λ e. omega (arith, e))))) (lists.0 other b (works_on other b new old (others_back old new keeps) holds) isrc right),
+  λ kind b holds. lists.1 kind b (works_on o b new old (others_back old new keeps) holds),
+)
 
 -- no pool
 pub none_written : (o : Office) (all : List ClosedPool) (db : Trees) (totals : Totals) → ComesTo totals [] → WritesSome o all [] db db totals
@@ -78,10 +81,10 @@ none_written o all db totals comes = record {
   comes = λ book works reached. comes;
 }
 
-module _ (o : Office) (closed : List ClosedPool) (works : WorksByRecording) (i : ℕ) (one : ClosedPool) (within : i < length closed) (is : one ≡ get_or closed i one) (old mid : Trees) (before : Totals) (listed : ListsAll closed old works) (so_far : WritesSome o closed (take i closed) old mid before) where
+module _ (o : Office) (closed : List ClosedPool) (works : PoolWorks) (i : ℕ) (one : ClosedPool) (within : i < length closed) (is : one ≡ get_or closed i one) (old mid : Trees) (before : Totals) (listed : ListsAll o closed old works) (so_far : WritesSome o closed (take i closed) old mid before) where
   -- what a pool looks for is listed still
-  here : ListsOrder one.order mid works
-  here = lists_on one.order works old mid so_far.others (each_here (λ (c : ClosedPool). ListsOrder c.order old works) closed i one within is listed)
+  here : ListsOrder o one.order mid works
+  here = lists_on o one.order works old mid so_far.others (each_here (λ (c : ClosedPool). ListsOrder o c.order old works) closed i one within is listed)
 
   -- one pool more
   pub some_more : (after : Totals) (new : Trees) (credits : List Credit) → WritesPool o one.pool one.order works mid new credits → ((done : List Credit) → ComesTo before done → ComesTo after (done ++ credits)) → WritesSome o closed (take (i + 1) closed) old new after
@@ -119,7 +122,7 @@ pub all_written : (o : Office) (closed : List ClosedPool) (old new : Trees) (tot
 all_written o closed old new totals some = record { others = some.others; lines = some.lines; comes = some.comes }
 
 -- what a pool pays by the tables, and its lines
-pub pool_written : (o : Office) (pool number : ℕ) (order : Order) (works : WorksByRecording) (old mid new : Trees) (credits paid : List Credit) → number ≡ pool → credits ≡ paid → mid ≡ old → PaysAmong o order works old paid → AddsCredits number credits mid new → WritesPool o pool order works old new paid
+pub pool_written : (o : Office) (pool number : ℕ) (order : Order) (works : PoolWorks) (old mid new : Trees) (credits paid : List Credit) → number ≡ pool → credits ≡ paid → mid ≡ old → PaysAmong o order works old paid → AddsCredits number credits mid new → WritesPool o pool order works old new paid
 pool_written o pool number order works old mid new credits paid number_is same unchanged pays adds = record {
   pays = pays;
   adds = subst (λ (n : ℕ). AddsCredits n paid old new) number_is (subst (λ (l : List Credit). AddsCredits number l old new) same (subst (λ (db : Trees). AddsCredits number credits db new) unchanged adds));

@@ -17,7 +17,7 @@ returns-clause-looks g c =
     let works = c.as_slice.result.now in
     let noted = λ (w : List ℕ). ap (λ (xs : List (List ℕ)). list_any (bytes_eq w) xs) c.as_slice.ensures.value ∙ c.in_ok-works.ensures w in
     looks_then (state g.S.Store c.args.tx.now.conn.now) (state g.S.Store c.chosen_of.new.tx.conn.now) (state g.S.Store c.add_transmissions.new.tx.conn.now) c.in_ok-chosen.chosen c.add_transmissions.result _ _ _ c.in_ok-chosen.ensures.looks c.add_transmissions.ensures.looks
-    (λ y first second b holds notes asked within. second b holds
+    (λ y first second b holds lent notes asked within. second b holds lent
     (chosen_right o b _ holds key.sender (is_tallied c.args.weighing.now.tally.now) c.args.named.now (λ w. list_any (bytes_eq w) works) c.in_ok-chosen.chosen key.number notes asked within noted (first o b holds within)))
 
 pub returns-in_err-works-clause-err : goal.returns-in_err-works-clause-err

@@ -28,12 +28,12 @@ loop-number-preserved g c =
     record {
       same_reference = c.add_transmission.ensures.same_reference ∙ c.loop-number.invariant.same_reference;
       looks = looks_then (state g.S.Store c.args.tx.now.conn.now) (state g.S.Store c.loop-number.tx.conn.now) (state g.S.Store c.add_transmission.new.tx.conn.now) tt (Ok tt) _ _ _ c.loop-number.invariant.looks c.in_ok-add_transmission.ensures.looks
-          (λ y first second b holds right.
+          (λ y first second b holds lent right.
           let f = λ (k : ℕ). versions_of_transmission o b key k (transactions_sent b key.sender k) in
           let within = listed_within o b key of_these c.args.chosen.now right all i n (c.as_slice-number-items.ensures.value ∙ c.in_ok-numbers.ensures.numbers) c.number-item.is c.loop-number-test.true in
           subst (λ (ws : List CutWork). AddsCandidates (holders_of c.args.weighing.now.kind o) of_these ws first_list new_list)
           (ap (λ (ws : List CutWork). versions_in o b key (take i all) ++ ws) (sym (append-nil (f n))) ∙ sym (ap (versions_in o b key) next ∙ flat_map-append f (take i all) (n ∷ [])))
-          (adds_then (holders_of c.args.weighing.now.kind o) of_these (versions_in o b key (take i all)) (f n) first_list mid_list new_list (first b holds right) (second b holds within right)));
+          (adds_then (holders_of c.args.weighing.now.kind o) of_these (versions_in o b key (take i all)) (f n) first_list mid_list new_list (first b holds lent right) (second b holds lent within right)));
     }
 
 pub returns-clause-looks : goal.returns-clause-looks
@@ -45,9 +45,9 @@ returns-clause-looks g c =
     let new_list = c.loop-number.candidates.items in
     let named : take c.loop-number.number-index all ≡ c.args.chosen.now.transmissions.keys = take_all c.loop-number.number-index all c.loop-number-test.false ∙ c.as_slice-number-items.ensures.value ∙ c.in_ok-numbers.ensures.numbers in
     looks_as (state g.S.Store c.args.tx.now.conn.now) (state g.S.Store c.loop-number.tx.conn.now) tt (Ok tt) _ _ c.loop-number.invariant.looks
-    (λ first b holds right.
+    (λ first b holds lent right.
     set_adds (holders_of c.args.weighing.now.kind o) o b key (is_tallied c.args.weighing.now.tally.now) c.args.chosen.now right c.transmissions.ensures.ordered old_list new_list
-    (subst (λ (ns : List ℕ). AddsCandidates (holders_of c.args.weighing.now.kind o) (is_tallied c.args.weighing.now.tally.now) (versions_in o b key ns) old_list new_list) named (first b holds right)))
+    (subst (λ (ns : List ℕ). AddsCandidates (holders_of c.args.weighing.now.kind o) (is_tallied c.args.weighing.now.tally.now) (versions_in o b key ns) old_list new_list) named (first b holds lent right)))
 
 pub returns-in_err-numbers-clause-err : goal.returns-in_err-numbers-clause-err
 returns-in_err-numbers-clause-err g c =

@@ -1,8 +1,9 @@
-use Rattle.std.proofs.Common.{◌≡◌, Ok, take}
+use Rattle.std.proofs.Common.{◌≡◌, Ok, option_map, take}
 use Rattle.sqlite.specs.Held.{state}
 use Rattle.society_core.specs.Book.{Book}
 use Rattle.society_core.specs.Candidates.{AddsCandidates}
 use Rattle.society_core.specs.Points.{is_tallied}
+use Rattle.society_closings.specs.Choosing.{IsLent}
 use Rattle.society_closings.specs.CutWorks.{ChoosesNaming}
 use Rattle.society_book.specs.Sources.{HoldsWorks}
 use Rattle.society_book.specs.Steps.{Looks}
@@ -15,6 +16,6 @@ abbrev pub invariant-loop-number : goal.invariant-loop-number
 invariant-loop-number g l = record {
   same_reference : l.tx.conn.ghost_name ≡ l.initial.tx.conn.ghost_name;
   looks : Looks {X = Unit {0}} (state g.S.Store l.initial.tx.conn.now) (state g.S.Store l.tx.conn.now) (Ok tt)
-      (λ db _. (book : Book) → HoldsWorks l.weighing.office.now book db → ChoosesNaming l.weighing.office.now book l.key (is_tallied l.weighing.tally.now) l.chosen
+      (λ db _. (book : Book) → HoldsWorks l.weighing.office.now book db → IsLent l.weighing db (option_map (λ w. w.now) l.weighed) → ChoosesNaming l.weighing.office.now book l.key (is_tallied l.weighing.tally.now) l.chosen
       → AddsCandidates (holders_of l.weighing.kind l.weighing.office.now) (is_tallied l.weighing.tally.now) (versions_in l.weighing.office.now book l.key (take l.number-index l.number-items)) l.initial.candidates.items l.candidates.items);
 }

@@ -1,12 +1,14 @@
-use Rattle.std.proofs.Common.{◌≡◌, ◌∙◌, List, ℕ, ap, bytes_eq, sym, true}
+use Rattle.std.proofs.Common.{◌≡◌, ◌∙◌, List, ℕ, ap, bytes_eq, option_map, sym, true}
 use Rattle.std.specs.List.{list_any}
 use Rattle.society_book.proofs.lemmas.together.ErrLemmas.{errs_where}
 use Rattle.society_book.proofs.lemmas.together.StepLemmas.{does_also}
 use Rattle.society_closings.proofs.lemmas.cuts.CutLists.{recordings_noted}
 use Rattle.society_closings.proofs.lemmas.cuts.CutNotes.{all_asked}
 use Rattle.society_closings.proofs.lemmas.cuts.FaultLemmas.{errs_memory}
+use Rattle.society_closings.proofs.lemmas.cuts.Lent.{lent_fewer}
 use Rattle.society_closings.specs.Blamed.{LackCut, LackSenders}
 use Rattle.society_closings.specs.CutWorks.{is_of_cut}
+use Rattle.society_closings.specs.Weighing.{AreWorksWeighed}
 use Rattle.society_core.specs.Points.{is_tallied}
 use Rattle.sqlite.specs.Held.{state}
 use Rattle.society_closings.proofs.cut_works.candidates_in.Goals as goal
@@ -16,11 +18,16 @@ returns-clause-looks g c =
     let tally = c.args.tally.now in
     let works = c.args.works.now in
     let cut = c.args.order.now.cut in
+    let db = (state g.S.Store c.args.tx.now.conn.now).now.trees in
     let named = c.in_ok-named.named in
     let senders = λ (s : List ℕ). c.in_ok-named.ensures.senders s ∙ ap (λ keys. is_of_cut keys s) c.cut.ensures.value in
     let listed = λ (q : List ℕ) (is : is_tallied tally q ≡ true). c.in_ok-named.ensures.listed q (ap (λ (xs : List (List ℕ)). list_any (bytes_eq q) xs) c.as_slice.ensures.value ∙ sym (c.in_ok-recordings.ensures.tallied q) ∙ is) in
+    let lent = λ (weighed : AreWorksWeighed c.args.office.now db works).
+    lent_fewer c.args.kind c.args.office.now (λ q. list_any (bytes_eq q) c.as_slice-2.result.now) (is_tallied tally) db (option_map (λ w. w.now) c.weighed_for-weighed.result)
+    (λ q is. ap (λ (xs : List (List ℕ)). list_any (bytes_eq q) xs) c.as_slice-2.ensures.value ∙ sym (c.in_ok-recordings.ensures.tallied q) ∙ is)
+    (c.weighed_for-weighed.ensures c.args.office.now db weighed) in
     does_also (state g.S.Store c.args.tx.now.conn.now) (state g.S.Store c.candidates_of.new.tx.conn.now) c.candidates_of.result _ _ (rw c.cut-2.ensures.value at c.candidates_of.ensures.looks)
-    (λ found said. (said.0, λ lists b holds reached. said.1 b holds (recordings_noted cut (is_tallied tally) (state g.S.Store c.args.tx.now.conn.now).now.trees works named lists senders listed) (all_asked named cut (λ s h. senders s ∙ h)) reached))
+    (λ found said. (said.0, λ lists weighed b holds reached. said.1 b holds (lent weighed) (recordings_noted cut (is_tallied tally) db works.listed named lists senders listed) (all_asked named cut (λ s h. senders s ∙ h)) reached))
 
 pub returns-in_err-recordings-clause-err : goal.returns-in_err-recordings-clause-err
 returns-in_err-recordings-clause-err g c =
@@ -43,4 +50,4 @@ returns-clause-err g c =
     let senders = λ (s : List ℕ). c.in_ok-named.ensures.senders s ∙ ap (λ keys. is_of_cut keys s) c.cut.ensures.value in
     let listed = λ (q : List ℕ) (is : is_tallied tally q ≡ true). c.in_ok-named.ensures.listed q (ap (λ (xs : List (List ℕ)). list_any (bytes_eq q) xs) c.as_slice.ensures.value ∙ sym (c.in_ok-recordings.ensures.tallied q) ∙ is) in
     errs_where (LackSenders o cut (is_tallied tally) named) (LackCut o c.args.order.now tally works) old (state g.S.Store c.candidates_of.new.tx.conn.now) c.candidates_of.result (rw c.cut-2.ensures.value at c.candidates_of.ensures.err)
-    (λ no lists b holds reached. no b holds (recordings_noted cut (is_tallied tally) old.now.trees works named lists senders listed) (all_asked named cut (λ s h. senders s ∙ h)) reached)
+    (λ no lists b holds reached. no b holds (recordings_noted cut (is_tallied tally) old.now.trees works.listed named lists senders listed) (all_asked named cut (λ s h. senders s ∙ h)) reached)

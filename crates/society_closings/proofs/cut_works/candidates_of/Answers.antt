@@ -16,8 +16,8 @@ use Rattle.society_closings.proofs.cut_works.candidates_of.Goals as goal
 
 pub loop-key-preserved : goal.loop-key-preserved
 loop-key-preserved g c =
-    let o = c.args.office.now in
-    let of_these = is_tallied c.args.tally.now in
+    let o = c.args.weighing.now.office.now in
+    let of_these = is_tallied c.args.weighing.now.tally.now in
     let named = c.args.named.now in
     let cut = c.args.cut.now in
     let i = c.loop-key.key-index in
@@ -27,20 +27,20 @@ loop-key-preserved g c =
     record {
       same_reference = c.add_sender.ensures.same_reference ∙ c.loop-key.invariant.same_reference;
       looks = looks_then (state g.S.Store c.args.tx.now.conn.now) (state g.S.Store c.loop-key.tx.conn.now) (state g.S.Store c.add_sender.new.tx.conn.now) tt (Ok tt) _ _ _ c.loop-key.invariant.looks c.in_ok-add_sender.ensures.looks
-          (λ y first second b holds notes asked reached.
+          (λ y first second b holds lent notes asked reached.
           let is_asked : notes_of_sender named key.sender ≡ true = ap (λ (k : TransmissionKey). notes_of_sender named k.sender) c.key-item.is ∙ all_at (λ (k : TransmissionKey). notes_of_sender named k.sender) cut i key asked c.loop-key-test.true in
           let applied : is_applied b key ≡ true = ap (is_applied b) c.key-item.is ∙ all_at (is_applied b) cut i key reached c.loop-key-test.true in
-          subst (λ (ws : List CutWork). StandFor (holders_of c.args.kind o) of_these ws c.add_sender.new.candidates.items)
+          subst (λ (ws : List CutWork). StandFor (holders_of c.args.weighing.now.kind o) of_these ws c.add_sender.new.candidates.items)
           (sym (ap (flat_map (versions_at_cut o b)) next ∙ works_push o b so_far key))
-          (second b holds notes is_asked applied (flat_map (versions_at_cut o b) so_far) (first b holds notes asked reached)));
+          (second b holds lent notes is_asked applied (flat_map (versions_at_cut o b) so_far) (first b holds lent notes asked reached)));
     }
 
 pub returns-clause-looks : goal.returns-clause-looks
 returns-clause-looks g c =
-    let o = c.args.office.now in
+    let o = c.args.weighing.now.office.now in
     let cut = c.args.cut.now in
     looks_as (state g.S.Store c.args.tx.now.conn.now) (state g.S.Store c.loop-key.tx.conn.now) tt (Ok c.loop-key.candidates) _ _ c.loop-key.invariant.looks
-    (λ first b holds notes asked reached. subst (λ (keys : List TransmissionKey). StandFor (holders_of c.args.kind o) (is_tallied c.args.tally.now) (flat_map (versions_at_cut o b) keys) c.loop-key.candidates.items) (take_all c.loop-key.key-index cut c.loop-key-test.false) (first b holds notes asked reached))
+    (λ first b holds lent notes asked reached. subst (λ (keys : List TransmissionKey). StandFor (holders_of c.args.weighing.now.kind o) (is_tallied c.args.weighing.now.tally.now) (flat_map (versions_at_cut o b) keys) c.loop-key.candidates.items) (take_all c.loop-key.key-index cut c.loop-key-test.false) (first b holds lent notes asked reached))
 
 pub returns-in_err-add_sender-clause-looks : goal.returns-in_err-add_sender-clause-looks
 returns-in_err-add_sender-clause-looks g c =
@@ -49,8 +49,8 @@ returns-in_err-add_sender-clause-looks g c =
 
 pub returns-in_err-add_sender-clause-err : goal.returns-in_err-add_sender-clause-err
 returns-in_err-add_sender-clause-err g c =
-    let o = c.args.office.now in
-    let of_these = is_tallied c.args.tally.now in
+    let o = c.args.weighing.now.office.now in
+    let of_these = is_tallied c.args.weighing.now.tally.now in
     let named = c.args.named.now in
     let cut = c.args.cut.now in
     let i = c.loop-key.key-index in

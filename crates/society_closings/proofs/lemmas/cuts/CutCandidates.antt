@@ -1,7 +1,6 @@
 -- Candidates of the works that are chosen stand for the versions at a cut.
 use Rattle.std.proofs.Common.{◌≡◌, ◌∙◌, ◌+◌, ◌++◌, ℕ, suc, Bool, true, false, cond, List, [], ◌∷◌, Option, Some, None, Result, Ok, Err, length, refl, ap, ap₂, append_assoc, ◌==◌, sym, subst, arith, map, slice_get, IfOk, OnOk}
 use Rattle.std.proofs.lemmas.Bool.{false≢true}
-use Rattle.std.proofs.lemmas.List.{append-nil}
 use Rattle.std.proofs.lemmas.List.Elements.{filter-append}
 use Rattle.std.specs.BTreeSet.{contains}
 use Rattle.std.specs.Cmp.{unsigned_Decides}
@@ -39,7 +38,7 @@ works_where passes sender place transactions = map (λ placed. cut_work sender p
 
 module _ (sender : List ℕ) where
   -- one that passes, and then the others
-  where_more : (passes : ℕ → Transaction → Bool) (place : ℕ) (t : Transaction) (ts : List Transaction) → works_where passes sender place (t ∷ ts) ≡ work_where (passes place t) sender t ++ works_where passes sender (place + 1) ts
+  pub where_more : (passes : ℕ → Transaction → Bool) (place : ℕ) (t : Transaction) (ts : List Transaction) → works_where passes sender place (t ∷ ts) ≡ work_where (passes place t) sender t ++ works_where passes sender (place + 1) ts
   where_more passes place t ts = by_case (passes place t)
     where
       by_case : (c : Bool) → map (λ (placed : ℕ × Transaction). cut_work sender placed.1) (cond c ((place, t) ∷ filter (λ placed. passes placed.0 placed.1) (enumerate_from (place + 1) ts)) (filter (λ placed. passes placed.0 placed.1) (enumerate_from (place + 1) ts))) ≡ work_where c sender t ++ works_where passes sender (place + 1) ts
@@ -54,12 +53,6 @@ module _ (sender : List ℕ) where
       ∙ ap (λ (ws : List CutWork). work_where (passes place x) sender x ++ ws) (where_append passes (place + 1) xs ys ∙ ap (λ (n : ℕ). works_where passes sender (place + 1) xs ++ works_where passes sender n ys) (let e : place + 1 + length xs ≡ place + suc (length xs) = omega arith in e))
       ∙ sym (append_assoc (work_where (passes place x) sender x) (works_where passes sender (place + 1) xs) (works_where passes sender (place + suc (length xs)) ys))
       ∙ ap (λ (ws : List CutWork). ws ++ works_where passes sender (place + suc (length xs)) ys) (sym (where_more passes place x xs))
-
-  -- one transaction more
-  pub where_push : (passes : ℕ → Transaction → Bool) (place : ℕ) (ts : List Transaction) (t : Transaction) → works_where passes sender place (ts ++ t ∷ []) ≡ works_where passes sender place ts ++ work_where (passes (place + length ts) t) sender t
-  where_push passes place ts t =
-      where_append passes place ts (t ∷ [])
-      ∙ ap (λ (ws : List CutWork). works_where passes sender place ts ++ ws) (where_more passes (place + length ts) t [] ∙ append-nil (work_where (passes (place + length ts) t) sender t))
 
   -- where what names a recording passes alike, the same ones name it
   pub where_alike : (p q : ℕ → Transaction → Bool) (isrc : List ℕ) (place : ℕ) (ts : List Transaction) → ((i : ℕ) (t : Transaction) → slice_get ts i ≡ Some t → names_recording isrc (cut_work sender t) ≡ true → p (place + i) t ≡ q (place + i) t) → filter (names_recording isrc) (works_where p sender place ts) ≡ filter (names_recording isrc) (works_where q sender place ts)

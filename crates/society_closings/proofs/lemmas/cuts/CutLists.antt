@@ -33,6 +33,7 @@ use Rattle.society_closings.proofs.lemmas.cuts.CutNotes.{all_listed_still}
 use Rattle.society_closings.specs.CutWorks.{IsListed, IsNoted, ListsMore, ListsRow, ListsSender, ListsWorks, NotesListed, NotesMore, NotesRecordings, Wants, is_listed, is_noted, is_of_cut, items_or_none, listed_at, notes_of_sender, wants, wants_for, works_listed}
 use Rattle.society_book.specs.Columns.{text_at, text_of}
 use Rattle.society_closings.specs.declared.named_works.NamedWorks.{NamedWorks}
+use Rattle.society_closings.specs.declared.pool_works.PoolWorks.{PoolWorks}
 use Rattle.society_closings.specs.declared.wanted.Wanted.{Wanted}
 use Rattle.society_closings.specs.declared.works_by_recording.WorksByRecording.{WorksByRecording}
 use Rattle.sqlite_rules.proofs.ListLemmas.{all_from, all_has, some_has}
@@ -228,6 +229,6 @@ wants_reported b order wanted tally tallied wants s isrc is =
     wants s isrc (wants_alike order.cut (is_reported b order) (is_tallied tally) (λ i. sym (reported tally (rows_named b order) tallied i)) s isrc is)
 
 -- so what an order looks for is what its tally has
-pub lists_tallied : (o : Office) (b : Book) (order : Order) (db : Trees) (works : WorksByRecording) (tally : Tally) → HoldsWorks o b db → Tallies tally (rows_named b order) → ListsOrder order db works → ListsWorks (wants_for order.cut (is_tallied tally)) db works
+pub lists_tallied : (o : Office) (b : Book) (order : Order) (db : Trees) (works : PoolWorks) (tally : Tally) → HoldsWorks o b db → Tallies tally (rows_named b order) → ListsOrder o order db works → ListsWorks (wants_for order.cut (is_tallied tally)) db works.listed
 lists_tallied o b order db works tally holds tallied lists =
-    lists_fewer (wants_for order.cut (is_reported b order)) (wants_for order.cut (is_tallied tally)) db works (wants_alike order.cut (is_tallied tally) (is_reported b order) (reported tally (rows_named b order) tallied)) (lists o b holds)
+    lists_fewer (wants_for order.cut (is_reported b order)) (wants_for order.cut (is_tallied tally)) db works.listed (wants_alike order.cut (is_tallied tally) (is_reported b order) (reported tally (rows_named b order) tallied)) (lists.0 o b holds)

@@ -20,7 +20,7 @@ returns-clause-looks g c =
     looks_then old (state g.S.Store c.tally_of.new.tx.conn.now) (state g.S.Store c.credits_for.new.tx.conn.now) tally c.credits_for.result _ _ _ c.in_ok-tally.ensures.looks c.credits_for.ensures.looks
     (λ y tallied pays lists b holds reached.
     let its = subst (λ (ks : List ReturnKey). Tallies tally (flat_map (rows_of_return b) ks)) c.returns.ensures.value (tallied o b holds c.returns.ensures.limit).0 in
-    pays (lists_tallied o b order old.now.trees works tally holds its lists) b holds reached its)
+    pays (lists_tallied o b order old.now.trees works tally holds its lists) lists.1 b holds reached its)
 
 pub returns-in_err-tally-clause-err : goal.returns-in_err-tally-clause-err
 returns-in_err-tally-clause-err g c =
@@ -40,4 +40,4 @@ returns-clause-err g c =
     (λ tallied no lists b holds pays.
     let its = tallied o b holds c.returns.ensures.limit in
     let counted = subst (λ (ks : List ReturnKey). Tallies tally (flat_map (rows_of_return b) ks)) c.returns.ensures.value its.0 in
-    no (lists_tallied o b order old.now.trees works tally holds counted lists) b holds pays.reached counted (subst (λ (ks : List ReturnKey). length (flat_map (rows_of_return b) ks) ≤ 10000000) c.returns.ensures.value its.1))
+    no (lists_tallied o b order old.now.trees works tally holds counted lists) lists.1 b holds pays.reached counted (subst (λ (ks : List ReturnKey). length (flat_map (rows_of_return b) ks) ≤ 10000000) c.returns.ensures.value its.1))
