@@ -38,7 +38,7 @@ fn weigh_transaction(
     let Some(work) = transaction.work_number() else {
         return Ok(());
     };
-    let mut candidates = Vec::new(weighing.alloc);
+    let mut candidates = Vec::with_capacity(weighing.alloc, 1)?;
     add_candidates(weighing, sender, &work, transaction, &mut candidates)?;
     if candidates.is_empty() {
         return Ok(());

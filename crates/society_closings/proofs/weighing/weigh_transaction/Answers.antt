@@ -66,7 +66,7 @@ returns-then-is_empty c =
     let work = c.in-Some.work in
     let kept = c.add_candidates.new.candidates in
     let numbered = number_read (number_of_work t) work (sym c.in-Some.is ∙ c.work_number.ensures) in
-    let adds = subst (λ (l : List Candidate). AddsWork weighing c.args.sender.now work t l kept.items) c.new-candidates.ensures.items c.in_ok-add_candidates.ensures in
+    let adds = subst (λ (l : List Candidate). AddsWork weighing c.args.sender.now work t l kept.items) c.in_ok-candidates.ensures.items c.in_ok-add_candidates.ensures in
     let long = (unsigned_Decides kept.len 0).0 (sym c.is_empty.ensures ∙ c.if-is_empty.true) in
     no_more weighing c.args.sender.now c.args.place t work kept.items numbered adds c.args.versions.now.items (nil_from_length kept.items (omega (arith, kept.ok.0, long)))
 
@@ -78,6 +78,6 @@ returns c =
     let kept = c.add_candidates.new.candidates in
     let old = c.args.versions.now.items in
     let numbered = number_read (number_of_work t) work (sym c.in-Some.is ∙ c.work_number.ensures) in
-    let adds = subst (λ (l : List Candidate). AddsWork weighing c.args.sender.now work t l kept.items) c.new-candidates.ensures.items c.in_ok-add_candidates.ensures in
+    let adds = subst (λ (l : List Candidate). AddsWork weighing c.args.sender.now work t l kept.items) c.in_ok-candidates.ensures.items c.in_ok-add_candidates.ensures in
     subst (λ (l : List WeighedVersion). WeighsMore weighing.kind weighing.office.now (is_tallied weighing.tally.now) c.args.sender.now c.args.place (t ∷ []) old l) (sym c.in_ok-push.ensures.items)
     (one_more weighing c.args.sender.now c.args.place t work kept.items numbered adds kept old refl)
