@@ -6,8 +6,8 @@ ghost use Rattle.book_audit.specs.Credits.{AreCreditsOf, IsCreditOf, IsNot};
 ghost use Rattle.society_rows.specs.Between.{within};
 
 use crate::AuditFault;
-use crate::reading::owners_of;
-use society_rows::LineTable;
+use crate::reading::ask;
+use society_rows::{DerivedTable, Question};
 use sqlite::{Alter, Row, Transaction};
 use sqlite_value::value::ValueRef;
 use std::collections::BTreeSet;
@@ -45,7 +45,7 @@ pub fn has_no_stranger<S: Alter>(
     ensures same_reference { tx.new.conn.ghost_name ≡ tx.old.conn.ghost_name }
     ensures examined { within S.Store tx.old tx.new (Examines (IsNot (AreCreditsOf pools.now))) result (λ db _. AreCreditsOf pools.now db) }
 {
-    let rows = owners_of(tx, LineTable::Credits)?;
+    let rows = ask(tx, Question::FirstColumns(DerivedTable::Credits))?;
     if are_of_these(pools, rows.as_slice()) {
         Ok(())
     } else {

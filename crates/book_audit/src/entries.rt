@@ -1,6 +1,5 @@
 //! The senders of a database whose transmissions, ends and returns may stand in a book.
 ghost use Rattle.std.specs.Prelude.{◌≡◌, ◌++◌, IfOk, IfErr, OnOk, map};
-ghost use Rattle.std.specs.BTreeSet.{IsFromIterResult};
 ghost use Rattle.book_audit.specs.Examining.{Examines, Judges};
 ghost use Rattle.book_audit.specs.OwnRows.{LacksOwn};
 ghost use Rattle.society_core.specs.Keys.{ascending, bytes_cmp};
@@ -12,18 +11,11 @@ use crate::AuditFault;
 use crate::reported::check_returns;
 use crate::sent::sent_in;
 use crate::stated::{are_under_ends, map_of_lasts, stated_in};
+use crate::strangers::set_of;
 use society_core::{SegmentKey, TransmissionKey};
 use sqlite::{Alter, Transaction};
 use std::alloc::{AllocError, Global};
-use std::collections::BTreeSet;
 use work_ids::SenderKey;
-
-// The set of some senders.
-fn set_of_senders(alloc: Global, senders: Vec<SenderKey>) -> Result<BTreeSet<SenderKey>, AllocError>
-    ensures { IfOk result (IsFromIterResult bytes_cmp senders.items) }
-{
-    senders.into_iter().collect(alloc)
-}
 
 // Adds the senders of some transmissions.
 fn add_sent(keys: &[TransmissionKey], senders: &mut Vec<SenderKey>) -> Result<(), AllocError>
@@ -56,7 +48,7 @@ fn senders_of(
     let mut senders = Vec::new(alloc);
     add_sent(keys, &mut senders)?;
     add_stated(lasts, &mut senders)?;
-    let set = set_of_senders(alloc, senders)?;
+    let set = set_of(alloc, senders.as_slice())?;
     set.iter().copied().collect(alloc)
 }
 

@@ -1,18 +1,13 @@
 //! Statements of an audit: each reads rows in a transaction and judges none.
-ghost use Rattle.std.specs.Prelude.{◌≡◌, IfErr, IfOk, Ok, true};
+ghost use Rattle.std.specs.Prelude.{◌≡◌, IfErr, IfOk, Ok};
 ghost use Rattle.book_audit.specs.declared.audit_fault.AuditFault.TheVariants.{Memory};
 ghost use Rattle.book_audit.specs.Examining.{Examines, Never};
 ghost use Rattle.society_rows.specs.Between.{within};
-ghost use Rattle.society_rows.specs.BodyKeys.{body_table};
-ghost use Rattle.society_rows.specs.LineSenders.{ListsSenders};
 ghost use Rattle.society_rows.specs.Listings.{ListsAll};
 ghost use Rattle.society_rows.specs.Questions.{RowsAnswer};
-ghost use Rattle.society_rows.specs.Reads.{ListsKeys};
 
 use crate::AuditFault;
-use society_rows::{
-    BodyTable, LineTable, Question, RowFault, TableName, all_keys, all_rows, answer, owners,
-};
+use society_rows::{Question, RowFault, TableName, all_rows, answer};
 use sqlite::{Alter, Row, Transaction};
 
 /// All rows of a table, by its key; `Memory` or `Store` where memory or the database failed.
@@ -35,28 +30,6 @@ pub(crate) fn ask<S: Alter>(
     ensures examined { within S.Store tx.old tx.new (Examines Never) result (λ db rows. RowsAnswer question.entry db rows.items) }
 {
     Ok(answer(tx, question)?)
-}
-
-/// The keys of all rows of a table of bodies, ascending; `Memory` or `Store` where memory or the database failed.
-pub(crate) fn keys_of<S: Alter>(
-    tx: &mut Transaction<'_, S>,
-    table: BodyTable,
-) -> Result<Vec<Row>, AuditFault>
-    ensures same_reference { tx.new.conn.ghost_name ≡ tx.old.conn.ghost_name }
-    ensures examined { within S.Store tx.old tx.new (Examines Never) result (λ db rows. ListsKeys (body_table table) (λ _. true) 2 db rows.items) }
-{
-    Ok(all_keys(tx, table)?)
-}
-
-/// The first column of each row of a table, the sender or the pool; `Memory` or `Store` where memory or the database failed.
-pub(crate) fn owners_of<S: Alter>(
-    tx: &mut Transaction<'_, S>,
-    table: LineTable,
-) -> Result<Vec<Row>, AuditFault>
-    ensures same_reference { tx.new.conn.ghost_name ≡ tx.old.conn.ghost_name }
-    ensures examined { within S.Store tx.old tx.new (Examines Never) result (λ db rows. ListsSenders table db rows.items) }
-{
-    Ok(owners(tx, table)?)
 }
 
 /// What is worked out of rows that were read. It fails by want of memory, or where a number has no room, which is told as that: of what

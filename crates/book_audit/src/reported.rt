@@ -8,10 +8,10 @@ ghost use Rattle.book_audit.specs.Entries.{is_right_return};
 ghost use Rattle.book_audit.specs.Judging.{AreReported, is_one_right, is_reported_at, is_reported_key, is_spelled};
 
 use crate::AuditFault;
-use crate::reading::{ask, keys_of};
+use crate::reading::ask;
 use perf_returns::{ReturnError, read_return};
 use society_core::ReturnKey;
-use society_rows::{BodyTable, Question, ReturnRow, TransmissionKeyRow};
+use society_rows::{Question, ReturnRow, TransmissionKeyRow};
 use sqlite::{Alter, Row, Transaction};
 use std::alloc::{AllocError, Global};
 use work_ids::{Reporter, ReturnNumber};
@@ -97,7 +97,7 @@ pub(crate) fn check_returns<S: Alter>(
     ensures same_reference { tx.new.conn.ghost_name ≡ tx.old.conn.ghost_name }
     ensures examined { within S.Store tx.old tx.new (Examines (λ db. AreReported db → ⊥)) result (λ db _. AreReported db) }
 {
-    let rows = keys_of(tx, BodyTable::Returns)?;
+    let rows = ask(tx, Question::ReturnKeys)?;
     for row in rows.as_slice() {
         check_at(alloc, tx, row)?;
     }

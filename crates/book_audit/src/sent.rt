@@ -7,10 +7,10 @@ ghost use Rattle.book_audit.specs.Entries.{is_right_sent};
 ghost use Rattle.book_audit.specs.Judging.{AreSent, AreSentKeys, is_one_right, is_sent_at, is_sent_key};
 
 use crate::AuditFault;
-use crate::reading::{ask, keys_of};
+use crate::reading::ask;
 use cwr_files::{ReadFault, read_transmission};
 use society_core::TransmissionKey;
-use society_rows::{BodyTable, Question, TransmissionKeyRow, TransmissionRow};
+use society_rows::{Question, TransmissionKeyRow, TransmissionRow};
 use sqlite::{Alter, Row, Transaction};
 use std::alloc::{AllocError, Global};
 use work_ids::{SenderKey, TransmissionNumber};
@@ -92,7 +92,7 @@ pub(crate) fn sent_in<S: Alter>(
     ensures same_reference { tx.new.conn.ghost_name ≡ tx.old.conn.ghost_name }
     ensures examined { within S.Store tx.old tx.new (Examines (λ db. AreSent db → ⊥)) result (λ db keys. AreSent db × AreSentKeys db keys.items) }
 {
-    let rows = keys_of(tx, BodyTable::Transmissions)?;
+    let rows = ask(tx, Question::TransmissionKeys)?;
     let mut keys = Vec::with_capacity(alloc, rows.len())?;
     for row in rows.as_slice() {
         let key = sent_at(alloc, tx, row)?;

@@ -83,12 +83,7 @@ fn is_under_end(ends: &BTreeMap<SegmentKey, u32>, key: &TransmissionKey) -> bool
 pub(crate) fn are_under_ends(ends: &BTreeMap<SegmentKey, u32>, keys: &[TransmissionKey]) -> bool
     ensures { result ≡ list_all (is_under ends.now) keys.now }
 {
-    for key in keys {
-        if !is_under_end(ends, key) {
-            return false;
-        }
-    }
-    true
+    keys.iter().all(|key| is_under_end(ends, key))
 }
 
 /// The segments and the last numbers of the ends of a database; `Damaged` where one may not stand in a book.

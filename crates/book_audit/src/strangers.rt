@@ -5,22 +5,25 @@ ghost use Rattle.std.specs.List.{AllByRecursion};
 ghost use Rattle.book_audit.specs.Examining.{Examines};
 ghost use Rattle.society_core.specs.Keys.{bytes_cmp};
 ghost use Rattle.society_rows.specs.Between.{within};
-ghost use Rattle.society_rows.specs.LineSenders.{line_table};
+ghost use Rattle.society_rows.specs.FirstColumns.{derived_table};
 ghost use Rattle.book_audit.specs.Auditing.{AreLinesOf, is_of_one};
 ghost use Rattle.book_audit.specs.LineSteps.{AreAllOfThese, AreOfThese, DeniesLines, IsNot};
 ghost use Rattle.share_rules.specs.declared.office.Office.{Office};
 
 use crate::AuditFault;
-use crate::reading::owners_of;
-use society_rows::LineTable;
+use crate::reading::ask;
+use society_rows::{DerivedTable, Question};
 use sqlite::{Alter, Row, Transaction};
 use sqlite_value::value::ValueRef;
 use std::alloc::{AllocError, Global};
 use std::collections::BTreeSet;
 use work_ids::SenderKey;
 
-// The set of some senders.
-fn set_of(alloc: Global, senders: &[SenderKey]) -> Result<BTreeSet<SenderKey>, AllocError>
+/// The set of some senders.
+pub(crate) fn set_of(
+    alloc: Global,
+    senders: &[SenderKey],
+) -> Result<BTreeSet<SenderKey>, AllocError>
     ensures { IfOk result (IsFromIterResult bytes_cmp senders.now) }
 {
     senders.iter().copied().collect(alloc)
@@ -43,24 +46,19 @@ fn is_of_one(senders: &BTreeSet<SenderKey>, row: &Row) -> bool
 fn are_of_these(senders: &BTreeSet<SenderKey>, rows: &[Row]) -> bool
     ensures { IsTrue result ↔ AllByRecursion (λ row. is_of_one senders.now row ≡ true) rows.now }
 {
-    for row in rows {
-        if !is_of_one(senders, row) {
-            return false;
-        }
-    }
-    true
+    rows.iter().all(|row| is_of_one(senders, row))
 }
 
 // That each row of a table begins with one of these senders; else `Damaged`.
 fn table_agrees<S: Alter>(
     tx: &mut Transaction<'_, S>,
     senders: &BTreeSet<SenderKey>,
-    table: LineTable,
+    table: DerivedTable,
 ) -> Result<(), AuditFault>
     ensures same_reference { tx.new.conn.ghost_name ≡ tx.old.conn.ghost_name }
-    ensures examined { within S.Store tx.old tx.new (Examines (IsNot (AreOfThese senders.now (line_table table)))) result (λ db _. AreOfThese senders.now (line_table table) db) }
+    ensures examined { within S.Store tx.old tx.new (Examines (IsNot (AreOfThese senders.now (derived_table table)))) result (λ db _. AreOfThese senders.now (derived_table table) db) }
 {
-    let rows = owners_of(tx, table)?;
+    let rows = ask(tx, Question::FirstColumns(table))?;
     if are_of_these(senders, rows.as_slice()) {
         Ok(())
     } else {
@@ -76,10 +74,10 @@ fn tables_agree<S: Alter>(
     ensures same_reference { tx.new.conn.ghost_name ≡ tx.old.conn.ghost_name }
     ensures examined { within S.Store tx.old tx.new (Examines (IsNot (AreAllOfThese senders.now))) result (λ db _. AreAllOfThese senders.now db) }
 {
-    table_agrees(tx, senders, LineTable::Fronts)?;
-    table_agrees(tx, senders, LineTable::Verdicts)?;
-    table_agrees(tx, senders, LineTable::Versions)?;
-    table_agrees(tx, senders, LineTable::Recordings)
+    table_agrees(tx, senders, DerivedTable::Fronts)?;
+    table_agrees(tx, senders, DerivedTable::Verdicts)?;
+    table_agrees(tx, senders, DerivedTable::Versions)?;
+    table_agrees(tx, senders, DerivedTable::Recordings)
 }
 
 /// That each row of what is derived of senders' lines is of one of these senders; else `Damaged`, and `Memory` or `Store` where memory or

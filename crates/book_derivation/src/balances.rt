@@ -8,7 +8,7 @@ ghost use Rattle.society_rows.specs.Between.{within};
 use crate::writing::wrote;
 use book_audit::{AuditFault, Totals, worked_out};
 use society_book::column_of;
-use society_rows::{BalanceRow, add_balance};
+use society_rows::{BalanceRow, NewRows, add};
 use sqlite::{Alter, Transaction};
 
 // Adds the balance of an account that has come to these units.
@@ -21,7 +21,7 @@ fn write_balance<S: Alter>(
     ensures derives { within S.Store tx.old tx.new (Derives Never) result (λ before after _. AddsBalance account.now units before after) }
 {
     let units = worked_out(column_of(units))?;
-    wrote(add_balance(tx, &BalanceRow { account, units }))
+    wrote(add(tx, NewRows::Balance(&BalanceRow { account, units })))
 }
 
 /// Writes what accounts have come to, to a table that has no balance.

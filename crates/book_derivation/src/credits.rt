@@ -14,7 +14,7 @@ use pool_split::Credit;
 use share_rules::Office;
 use society_closings::{PoolWorks, line_rows, texts_of};
 use society_core::PoolOrder;
-use society_rows::{CreditRow, add_credits};
+use society_rows::{CreditRow, add_all};
 use sqlite::{Alter, Transaction};
 use std::alloc::Global;
 use work_ids::PoolNumber;
@@ -27,7 +27,7 @@ fn add_lines<S: Alter>(
     ensures same_reference { tx.new.conn.ghost_name ≡ tx.old.conn.ghost_name }
     ensures derives { within S.Store tx.old tx.new (Derives Never) result (λ before after _. AddsLines (map credit_values lines.now) before after) }
 {
-    wrote(add_credits(tx, lines))
+    wrote(add_all(tx, lines))
 }
 
 // Adds the lines of these credits of a pool.

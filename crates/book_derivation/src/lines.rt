@@ -13,10 +13,7 @@ use crate::writing::wrote;
 use book_audit::{AuditFault, run_of, settled_line, worked_out};
 use share_rules::Office;
 use society_arrivals::{Outcome, recordings_by_key, verdict_rows, versions_by_key};
-use society_rows::{
-    FrontRow, RecordingRow, VerdictRow, VersionRow, add_recordings, add_verdicts, add_versions,
-    put_front,
-};
+use society_rows::{FrontRow, RecordingRow, VerdictRow, VersionRow, add_all, put_front};
 use sqlite::{Alter, Transaction};
 use std::alloc::Global;
 use work_ids::SenderKey;
@@ -34,9 +31,9 @@ fn write_rows<S: Alter>(
         (λ before after _. PutsLine (front_values front.now) (map verdict_values verdicts.now) (map version_values versions.now) (map recording_values recordings.now) before after) }
 {
     wrote(put_front(tx, front))?;
-    wrote(add_verdicts(tx, verdicts))?;
-    wrote(add_versions(tx, versions))?;
-    wrote(add_recordings(tx, recordings))
+    wrote(add_all(tx, verdicts))?;
+    wrote(add_all(tx, versions))?;
+    wrote(add_all(tx, recordings))
 }
 
 // Puts a sender's front, and adds what the transactions of its transmissions tell.

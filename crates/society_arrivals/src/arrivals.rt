@@ -13,7 +13,7 @@ use crate::settling::{put_run, reached_in};
 use share_rules::Office;
 use society_book::ends_in;
 use society_core::NumberPlace;
-use society_rows::{Idle, RowFault, TransmissionRow, add_transmission};
+use society_rows::{Idle, NewRows, RowFault, TransmissionRow, add};
 use sqlite::{Alter, Transaction};
 use std::alloc::Global;
 use work_ids::{SenderKey, TransmissionNumber};
@@ -77,7 +77,7 @@ fn take_run<S: Alter>(
         number: number.value(),
         body,
     };
-    add_transmission(tx, &row)
+    add(tx, NewRows::Transmission(&row))
 }
 
 // Adds a transmission to a transaction, and tells where its number stands then.

@@ -14,8 +14,7 @@ use crate::outcomes::{Outcome, recording_rows, settle_run, verdict_rows, version
 use crate::run::{Noted, Run, ascending_works};
 use society_book::{column_of, last_version};
 use society_rows::{
-    FrontRow, Question, RecordingRow, RowFault, VerdictRow, VersionRow, add_recordings,
-    add_verdicts, add_versions, answer, put_front,
+    FrontRow, Question, RecordingRow, RowFault, VerdictRow, VersionRow, add_all, answer, put_front,
 };
 use sqlite::{Alter, Row, Transaction};
 use std::alloc::Global;
@@ -123,9 +122,9 @@ fn add_told<S: Alter>(
     ensures same_reference { tx.new.conn.ghost_name ≡ tx.old.conn.ghost_name }
     ensures does { within S.Store tx.old tx.new Does result (Makes (AddsTold (map verdict_values verdicts.now) (map version_values versions.now) (map recording_values recordings.now))) }
 {
-    add_verdicts(tx, verdicts)?;
-    add_versions(tx, versions)?;
-    add_recordings(tx, recordings)
+    add_all(tx, verdicts)?;
+    add_all(tx, versions)?;
+    add_all(tx, recordings)
 }
 
 /// The rows of the versions that some transactions are, in the order of their keys: so a table that has none of this sender takes

@@ -11,7 +11,7 @@ use crate::run::Run;
 use crate::settling::{put_run, reached_in};
 use share_rules::Office;
 use society_book::ends_in;
-use society_rows::{Idle, RowFault, SegmentEndRow, add_segment_end};
+use society_rows::{Idle, NewRows, RowFault, SegmentEndRow, add};
 use sqlite::{Alter, Transaction};
 use std::alloc::Global;
 use work_ids::{GREATEST_RANK, SegmentEnd, SenderKey};
@@ -57,7 +57,7 @@ fn end_run<S: Alter>(
         last: end.last(),
         next: u32::from(end.next()),
     };
-    add_segment_end(tx, &row)
+    add(tx, NewRows::SegmentEnd(&row))
 }
 
 // Adds the end of a segment to a transaction, and tells its sender's front then, by its rank.

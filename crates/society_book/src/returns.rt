@@ -11,7 +11,7 @@ ghost use Rattle.society_rows.specs.Between.{between};
 
 use crate::bodies::compare_body;
 use society_core::{Known, Payment, ReturnKey};
-use society_rows::{Idle, PoolReturnRow, Question, ReturnRow, RowFault, add_return, ask};
+use society_rows::{Idle, NewRows, PoolReturnRow, Question, ReturnRow, RowFault, add, ask};
 use sqlite::{Alter, Row};
 use work_ids::PoolNumber;
 
@@ -120,7 +120,7 @@ pub fn write_return<S: Alter>(conn: &mut Idle<S>, row: &ReturnRow<'_>) -> Result
     ensures survives { between S.Store conn.old conn.new (SurvivesChange (ReturnComes (return_values row.now))) }
 {
     let mut tx = conn.connection.transaction();
-    add_return(&mut tx, row)?;
+    add(&mut tx, NewRows::Return(row))?;
     tx.commit()?;
     Ok(())
 }

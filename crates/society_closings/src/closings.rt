@@ -16,8 +16,8 @@ use share_rules::Kind;
 use society_book::{NO_ISRC, column_of, text_of};
 use society_core::{PoolOrder, ReturnKey, TransmissionKey};
 use society_rows::{
-    CreditRow, MechanicalPoolRow, PoolCutRow, PoolReturnRow, PoolRow, RowFault, add_credits,
-    add_mechanical_pool, add_pool, add_pool_cuts, add_pool_returns, add_units,
+    CreditRow, MechanicalPoolRow, NewRows, PoolCutRow, PoolReturnRow, PoolRow, RowFault, add,
+    add_all, add_units,
 };
 use sqlite::{Alter, Transaction};
 use std::alloc::Global;
@@ -149,7 +149,7 @@ fn add_mark<S: Alter>(tx: &mut Transaction<'_, S>, pool: u32, kind: Kind) -> Res
 {
     match kind {
         Kind::Performing => Ok(()),
-        Kind::Mechanical => add_mechanical_pool(tx, &MechanicalPoolRow { pool }),
+        Kind::Mechanical => add(tx, NewRows::MechanicalPool(&MechanicalPoolRow { pool })),
     }
 }
 
@@ -165,9 +165,9 @@ fn add_order<S: Alter>(
     ensures does { within S.Store tx.old tx.new DoesOpen result
         (Makes (AddsOrder (pool_values pool.now) (map pool_cut_values cuts.now) (map pool_return_values paid.now) (marks_of pool.now.pool kind))) }
 {
-    add_pool(tx, pool)?;
-    add_pool_cuts(tx, cuts)?;
-    add_pool_returns(tx, paid)?;
+    add(tx, NewRows::Pool(pool))?;
+    add_all(tx, cuts)?;
+    add_all(tx, paid)?;
     add_mark(tx, pool.pool, kind)
 }
 
@@ -181,7 +181,7 @@ fn pay_out<S: Alter>(
     ensures same_reference { tx.new.conn.ghost_name ≡ tx.old.conn.ghost_name }
     ensures does { within S.Store tx.old tx.new Does result (λ before after _. PaysOut (map credit_values lines.now) credits.now before after) }
 {
-    add_credits(tx, lines)?;
+    add_all(tx, lines)?;
     add_balances(alloc, tx, credits)
 }
 

@@ -15,7 +15,7 @@ ghost use Rattle.society_closings.specs.Readable.{IsRecordingRow, NamesWork};
 
 use crate::named_works::NamedWorks;
 use society_core::TransmissionKey;
-use society_rows::{RecordingRow, RowFault, sender_recordings};
+use society_rows::{Question, RecordingRow, RowFault, answer};
 use sqlite::{Alter, Row, Transaction};
 use std::alloc::{AllocError, Global};
 use std::collections::{BTreeMap, BTreeSet};
@@ -173,7 +173,7 @@ impl WorksByRecording {
         ensures looks { within S.Store tx.old tx.new Looks result (λ db _. ListsSender (bytes_eq sender.now) wanted.now self.new db) }
         ensures err { within S.Store tx.old tx.new (Errs HoldNoWorks) result }
     {
-        let rows = sender_recordings(tx, sender.as_bytes())?;
+        let rows = answer(tx, Question::SenderRecordings(sender.as_bytes()))?;
         self.list_rows(alloc, rows.as_slice(), wanted)?;
         Ok(())
     }

@@ -1,15 +1,14 @@
 pub mod Balances
 pub mod Between
-pub mod BodyKeys
 pub mod Effects
 pub mod Faults
 pub mod Finding
+pub mod FirstColumns
 pub mod Folds
 pub mod Forms
 pub mod KeyLaws
 pub mod Layout
 pub mod Layouts
-pub mod LineSenders
 pub mod Listings
 pub mod NewBook
 pub mod NewRows

@@ -16,7 +16,6 @@ pub record TableRows : Type 0 where
 abbrev pub added : NewRows → TableRows
 added (new.Office row) = record { table = name.Office; rows = office_values row.now ∷ [] }
 added (new.Transmission row) = record { table = name.Transmissions; rows = transmission_values row.now ∷ [] }
-added (new.Transmissions one two) = record { table = name.Transmissions; rows = transmission_values one.now ∷ transmission_values two.now ∷ [] }
 added (new.Return row) = record { table = name.Returns; rows = return_values row.now ∷ [] }
 added (new.Pool row) = record { table = name.Pools; rows = pool_values row.now ∷ [] }
 added (new.PoolCut row) = record { table = name.PoolCuts; rows = pool_cut_values row.now ∷ [] }
@@ -39,7 +38,6 @@ added (new.MechanicalPool row) = record { table = name.MechanicalPools; rows = m
 abbrev pub insert_text : NewRows → List ℕ
 insert_text (new.Office row) = codes "INSERT INTO office (one, layout, society, territory, name) VALUES (?1, ?2, ?3, ?4, ?5)"
 insert_text (new.Transmission row) = codes "INSERT INTO transmissions (sender, number, body) VALUES (?1, ?2, ?3)"
-insert_text (new.Transmissions one two) = codes "INSERT INTO transmissions (sender, number, body) VALUES (?1, ?2, ?3), (?4, ?5, ?6)"
 insert_text (new.Return row) = codes "INSERT INTO returns (reporter, number, body) VALUES (?1, ?2, ?3)"
 insert_text (new.Pool row) = codes "INSERT INTO pools (pool, amount) VALUES (?1, ?2)"
 insert_text (new.PoolCut row) = codes "INSERT INTO pool_cuts (pool, sender, number) VALUES (?1, ?2, ?3)"

@@ -5,6 +5,7 @@ use Rattle.sqlite_value.specs.Order.{Row}
 use Rattle.society_rows.specs.declared.questions.Question.{Question}
 use Rattle.society_rows.specs.declared.questions.Question.TheVariants as question
 use Rattle.society_rows.specs.declared.tables.TableName.TheVariants as name
+use Rattle.society_rows.specs.FirstColumns.{first_column_text}
 use Rattle.society_rows.specs.TableNames.{listing_text}
 
 -- the query of a question
@@ -17,6 +18,8 @@ question_text (question.NumbersBetween sender above below) = codes "SELECT sende
 question_text (question.Ends sender) = codes "SELECT sender, segment, last, next FROM segment_ends WHERE sender = ?1 ORDER BY sender, segment"
 question_text (question.Return reporter number) = codes "SELECT reporter, number, body FROM returns WHERE reporter = ?1 AND number = ?2 ORDER BY reporter, number"
 question_text (question.HasReturn reporter number) = codes "SELECT reporter, number FROM returns WHERE reporter = ?1 AND number = ?2 ORDER BY reporter, number"
+question_text question.TransmissionKeys = codes "SELECT sender, number FROM transmissions ORDER BY sender, number"
+question_text question.ReturnKeys = codes "SELECT reporter, number FROM returns ORDER BY reporter, number"
 question_text (question.Pool pool) = codes "SELECT pool, amount FROM pools WHERE pool = ?1 ORDER BY pool"
 question_text (question.Mechanical pool) = codes "SELECT pool FROM mechanical_pools WHERE pool = ?1 ORDER BY pool"
 question_text (question.Cuts pool) = codes "SELECT pool, sender, number FROM pool_cuts WHERE pool = ?1 ORDER BY pool, sender"
@@ -31,6 +34,7 @@ question_text (question.SenderVersions sender) = codes "SELECT sender, work, rev
 question_text (question.SenderRecordings sender) = codes "SELECT sender, work, revision, isrc FROM recordings WHERE sender = ?1 ORDER BY sender, work, revision, isrc"
 question_text (question.Credits pool) = codes "SELECT pool, line, isrc, account, units FROM credits WHERE pool = ?1 ORDER BY pool, line"
 question_text (question.Balance account) = codes "SELECT account, units FROM balances WHERE account = ?1 ORDER BY account"
+question_text (question.FirstColumns table) = first_column_text table
 
 -- the values of its parameters
 abbrev pub question_params : Question → Row
@@ -42,6 +46,8 @@ question_params (question.NumbersBetween sender above below) = Text sender.now �
 question_params (question.Ends sender) = Text sender.now ∷ []
 question_params (question.Return reporter number) = Text reporter.now ∷ Int (pos number) ∷ []
 question_params (question.HasReturn reporter number) = Text reporter.now ∷ Int (pos number) ∷ []
+question_params question.TransmissionKeys = []
+question_params question.ReturnKeys = []
 question_params (question.Pool pool) = Int (pos pool) ∷ []
 question_params (question.Mechanical pool) = Int (pos pool) ∷ []
 question_params (question.Cuts pool) = Int (pos pool) ∷ []
@@ -55,3 +61,4 @@ question_params (question.SenderVersions sender) = Text sender.now ∷ []
 question_params (question.SenderRecordings sender) = Text sender.now ∷ []
 question_params (question.Credits pool) = Int (pos pool) ∷ []
 question_params (question.Balance account) = Text account.now ∷ []
+question_params (question.FirstColumns table) = []

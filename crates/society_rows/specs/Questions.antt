@@ -1,4 +1,4 @@
--- Questions that the tables answer by a key, and what asking them does.
+-- Questions that the tables answer, and what asking them does.
 use Rattle.std.specs.Prelude.{◌≡◌, pos, true, List, [], ◌∷◌, Result, IsTrue, IfOk, OnOk}
 use Rattle.sqlite_value.specs.declared.value.Value.TheVariants.{Int, Text}
 use Rattle.sqlite_value.specs.Order.{Row}
@@ -9,6 +9,7 @@ use Rattle.society_rows.specs.declared.fault.RowFault.{RowFault}
 use Rattle.society_rows.specs.declared.questions.Question.{Question}
 use Rattle.society_rows.specs.declared.questions.Question.TheVariants as question
 use Rattle.society_rows.specs.Layout.{office, transmissions, returns, pools, pool_cuts, pool_returns, fronts, verdicts, versions, recordings, credits_table, balances, segment_ends, mechanical_pools}
+use Rattle.society_rows.specs.FirstColumns.{ListsFirstColumn}
 use Rattle.society_rows.specs.Reads.{Lists, ListsKeys, IsFirstOf, has_key, has_at, is_above, is_above_and_below}
 use Rattle.society_rows.specs.Stored.{HasLayout}
 
@@ -22,6 +23,8 @@ RowsAnswer (question.NumbersBetween sender above below) = ListsKeys transmission
 RowsAnswer (question.Ends sender) = Lists segment_ends (has_key (Text sender.now ∷ [])) 2
 RowsAnswer (question.Return reporter number) = Lists returns (has_key (Text reporter.now ∷ Int (pos number) ∷ [])) 2
 RowsAnswer (question.HasReturn reporter number) = ListsKeys returns (has_key (Text reporter.now ∷ Int (pos number) ∷ [])) 2
+RowsAnswer question.TransmissionKeys = ListsKeys transmissions (λ _. true) 2
+RowsAnswer question.ReturnKeys = ListsKeys returns (λ _. true) 2
 RowsAnswer (question.Pool pool) = Lists pools (has_key (Int (pos pool) ∷ [])) 1
 RowsAnswer (question.Mechanical pool) = Lists mechanical_pools (has_key (Int (pos pool) ∷ [])) 1
 RowsAnswer (question.Cuts pool) = Lists pool_cuts (has_key (Int (pos pool) ∷ [])) 2
@@ -35,6 +38,7 @@ RowsAnswer (question.SenderVersions sender) = Lists versions (has_key (Text send
 RowsAnswer (question.SenderRecordings sender) = Lists recordings (has_key (Text sender.now ∷ [])) 4
 RowsAnswer (question.Credits pool) = Lists credits_table (has_key (Int (pos pool) ∷ [])) 2
 RowsAnswer (question.Balance account) = Lists balances (has_key (Text account.now ∷ [])) 1
+RowsAnswer (question.FirstColumns table) = ListsFirstColumn table
 
 -- A question on a connection at rest, which shows its last commit where it is open: where the database is of a kind it finds this, an answer
 -- comes from an open connection alone, it leaves the last commit, and a crash leaves what it left before.

@@ -1,19 +1,18 @@
 //! The table of balances.
-ghost use Rattle.std.specs.Prelude.{◌≡◌, [], ◌∷◌, IfOk, IfErr, FitsSigned};
+ghost use Rattle.std.specs.Prelude.{◌≡◌, IfOk, IfErr, FitsSigned};
 ghost use Rattle.std.specs.Int.{w64};
 ghost use Rattle.sqlite.specs.State.{HasCleanDisk};
 ghost use Rattle.sqlite.specs.Values.{bound};
 ghost use Rattle.society_rows.specs.declared.fault.RowFault.TheVariants.{Unread};
 ghost use Rattle.society_rows.specs.Balances.{HasUnits, AddsUnits, HidesUnits, RefusesUnits};
-ghost use Rattle.society_rows.specs.Effects.{BlamesMedium, IsAllOrNothing, OnlyFails, Writes};
+ghost use Rattle.society_rows.specs.Effects.{IsAllOrNothing, OnlyFails, Writes};
 ghost use Rattle.society_rows.specs.Folds.{ReadsInside};
 ghost use Rattle.society_rows.specs.Forms.{IsRead, balance_forms};
 ghost use Rattle.society_rows.specs.Layout.{balances};
 ghost use Rattle.society_rows.specs.Rows.{balance_values};
-ghost use Rattle.society_rows.specs.Stored.{Adds, HasLayout, Puts};
+ghost use Rattle.society_rows.specs.Stored.{HasLayout, Puts};
 ghost use Rattle.society_rows.specs.Between.{within};
 
-use crate::new_rows::{NewRows, add};
 use crate::reading::{integer, text};
 use crate::shapes::{Rows, TableShape};
 use crate::statement::run;
@@ -65,21 +64,6 @@ impl<'a> BalanceRow<'a> {
     {
         [ValueRef::Text(self.account), ValueRef::Int(self.units)]
     }
-}
-
-/// Adds a balance, whose key has to be free.
-pub fn add_balance<S: Alter>(
-    tx: &mut Transaction<'_, S>,
-    row: &BalanceRow<'_>,
-) -> Result<(), RowFault>
-    ensures same_reference { tx.new.conn.ghost_name ≡ tx.old.conn.ghost_name }
-    ensures written { within S.Store tx.old tx.new Writes result
-        (Adds balances (balance_values row.now ∷ [])) }
-    ensures whole { within S.Store tx.old tx.new IsAllOrNothing result }
-    ensures err { within S.Store tx.old tx.new OnlyFails result }
-    ensures blamed { within S.Store tx.old tx.new BlamesMedium result }
-{
-    add(tx, NewRows::Balance(row))
 }
 
 // Puts a balance, in place of the one that is there under its key.

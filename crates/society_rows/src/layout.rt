@@ -10,7 +10,7 @@ ghost use Rattle.society_rows.specs.NewBook.{IsBare, IsEmptyBook, IsNewBook, Beg
 ghost use Rattle.society_rows.specs.Rows.{office_values};
 ghost use Rattle.society_rows.specs.Between.{between, within};
 
-use crate::office::add_office;
+use crate::new_rows::{NewRows, add};
 use crate::statement::run;
 use crate::tables::{TABLE_COUNT, name_at, shape_of};
 use crate::{Idle, OfficeRow, RowFault};
@@ -55,7 +55,7 @@ fn begin_book<S: Alter>(tx: &mut Transaction<'_, S>, office: &OfficeRow<'_>) -> 
     ensures blamed { within S.Store tx.old tx.new (BlamesMediumOver IsBare) result }
 {
     lay_out(tx)?;
-    add_office(tx, office)
+    add(tx, NewRows::Office(office))
 }
 
 /// Makes the tables of layout 3 in a database that has none, and writes the row of the office, in one transaction;

@@ -1,20 +1,15 @@
 //! The table of pools of mechanical rights.
-ghost use Rattle.std.specs.Prelude.{◌≡◌, [], ◌∷◌, IfOk, IfErr};
+ghost use Rattle.std.specs.Prelude.{◌≡◌, IfOk, IfErr};
 ghost use Rattle.sqlite.specs.Values.{bound};
 ghost use Rattle.society_rows.specs.declared.fault.RowFault.TheVariants.{Unread};
-ghost use Rattle.society_rows.specs.Effects.{IsAllOrNothing, OnlyFails, Writes};
 ghost use Rattle.society_rows.specs.Forms.{IsRead, mechanical_pool_forms};
-ghost use Rattle.society_rows.specs.Layout.{mechanical_pools};
 ghost use Rattle.society_rows.specs.Rows.{mechanical_pool_values};
-ghost use Rattle.society_rows.specs.Stored.{Adds};
-ghost use Rattle.society_rows.specs.Between.{within};
 
 use crate::RowFault;
-use crate::new_rows::{NewRows, add};
 use crate::reading::whole;
 use crate::shapes::{Parent, Rows, TableShape};
+use sqlite::Row;
 use sqlite::types::ToSql;
-use sqlite::{Alter, Row, Transaction};
 use sqlite_schema::schema::Kind::Integer;
 use sqlite_value::value::ValueRef;
 
@@ -62,18 +57,4 @@ impl MechanicalPoolRow {
     {
         [self.pool.to_sql()]
     }
-}
-
-/// Marks a pool as one of mechanical rights, which it may not be yet.
-pub fn add_mechanical_pool<S: Alter>(
-    tx: &mut Transaction<'_, S>,
-    row: &MechanicalPoolRow,
-) -> Result<(), RowFault>
-    ensures same_reference { tx.new.conn.ghost_name ≡ tx.old.conn.ghost_name }
-    ensures written { within S.Store tx.old tx.new Writes result
-        (Adds mechanical_pools (mechanical_pool_values row.now ∷ [])) }
-    ensures whole { within S.Store tx.old tx.new IsAllOrNothing result }
-    ensures err { within S.Store tx.old tx.new OnlyFails result }
-{
-    add(tx, NewRows::MechanicalPool(row))
 }

@@ -17,10 +17,9 @@ use sqlite_value::value::ValueRef;
 
 /// What one statement adds to a table: a row, or two.
 #[derive(Clone, Copy)]
-pub(crate) enum NewRows<'a> {
+pub enum NewRows<'a> {
     Office(&'a OfficeRow<'a>),
     Transmission(&'a TransmissionRow<'a>),
-    Transmissions(&'a TransmissionRow<'a>, &'a TransmissionRow<'a>),
     Return(&'a ReturnRow<'a>),
     Pool(&'a PoolRow),
     PoolCut(&'a PoolCutRow<'a>),
@@ -50,9 +49,6 @@ fn insert_of(rows: NewRows<'_>) -> &'static str
         }
         NewRows::Transmission(_) => {
             "INSERT INTO transmissions (sender, number, body) VALUES (?1, ?2, ?3)"
-        }
-        NewRows::Transmissions(_, _) => {
-            "INSERT INTO transmissions (sender, number, body) VALUES (?1, ?2, ?3), (?4, ?5, ?6)"
         }
         NewRows::Return(_) => "INSERT INTO returns (reporter, number, body) VALUES (?1, ?2, ?3)",
         NewRows::Pool(_) => "INSERT INTO pools (pool, amount) VALUES (?1, ?2)",
@@ -117,7 +113,7 @@ fn add_by<S: Alter>(
 
 /// Adds rows, whose keys have to be free: all, or none.
 #[tactic(auto, using(crate::proofs::lemmas::changes::Columns::bound_pair))]
-pub(crate) fn add<S: Alter>(tx: &mut Transaction<'_, S>, rows: NewRows<'_>) -> Result<(), RowFault>
+pub fn add<S: Alter>(tx: &mut Transaction<'_, S>, rows: NewRows<'_>) -> Result<(), RowFault>
     ensures same_reference { tx.new.conn.ghost_name ≡ tx.old.conn.ghost_name }
     ensures written { within S.Store tx.old tx.new Writes result
         (Adds (table_called (added rows.entry).table) (added rows.entry).rows) }
@@ -128,11 +124,6 @@ pub(crate) fn add<S: Alter>(tx: &mut Transaction<'_, S>, rows: NewRows<'_>) -> R
     match rows {
         NewRows::Office(row) => add_by(tx, rows, &row.params()),
         NewRows::Transmission(row) => add_by(tx, rows, &row.params()),
-        NewRows::Transmissions(one, two) => add_by(
-            tx,
-            rows,
-            [one.params(), two.params()].as_flattened(),
-        ),
         NewRows::Return(row) => add_by(tx, rows, &row.params()),
         NewRows::Pool(row) => add_by(tx, rows, &row.params()),
         NewRows::PoolCut(row) => add_by(tx, rows, &row.params()),

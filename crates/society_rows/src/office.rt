@@ -1,20 +1,15 @@
 //! The table of the office, which has one row.
-ghost use Rattle.std.specs.Prelude.{◌≡◌, [], ◌∷◌, IfOk, IfErr};
+ghost use Rattle.std.specs.Prelude.{◌≡◌, IfOk, IfErr};
 ghost use Rattle.sqlite.specs.Values.{bound};
 ghost use Rattle.society_rows.specs.declared.fault.RowFault.TheVariants.{Unread};
-ghost use Rattle.society_rows.specs.Effects.{BlamesMedium, OnlyFails, Writes};
 ghost use Rattle.society_rows.specs.Forms.{IsRead, office_forms, office_forms_under};
-ghost use Rattle.society_rows.specs.Layout.{office};
 ghost use Rattle.society_rows.specs.Rows.{office_values, office_values_under};
-ghost use Rattle.society_rows.specs.Stored.{Adds};
-ghost use Rattle.society_rows.specs.Between.{within};
 
 use crate::RowFault;
-use crate::new_rows::{NewRows, add};
 use crate::reading::{text, whole};
 use crate::shapes::{Rows, TableShape};
+use sqlite::Row;
 use sqlite::types::ToSql;
-use sqlite::{Alter, Row, Transaction};
 use sqlite_schema::schema::Kind::{Integer, Text};
 use sqlite_value::value::ValueRef;
 
@@ -91,18 +86,4 @@ impl<'a> OfficeRow<'a> {
             ValueRef::Text(self.name),
         ]
     }
-}
-
-/// Adds the row of the office, which has to be the first.
-pub(crate) fn add_office<S: Alter>(
-    tx: &mut Transaction<'_, S>,
-    row: &OfficeRow<'_>,
-) -> Result<(), RowFault>
-    ensures same_reference { tx.new.conn.ghost_name ≡ tx.old.conn.ghost_name }
-    ensures written { within S.Store tx.old tx.new Writes result
-        (Adds office (office_values row.now ∷ [])) }
-    ensures err { within S.Store tx.old tx.new OnlyFails result }
-    ensures blamed { within S.Store tx.old tx.new BlamesMedium result }
-{
-    add(tx, NewRows::Office(row))
 }

@@ -11,7 +11,7 @@ use crate::new_rows::{NewRows, add};
 use sqlite::{Alter, Transaction};
 
 /// A row of which two are added by one statement.
-pub(crate) trait PairedRow {
+pub trait PairedRow {
     ghost use Rattle.sqlite_schema.specs.declared.schema.Table.{Table};
     ghost use Rattle.sqlite_value.specs.Order.{Row};
 
@@ -49,7 +49,7 @@ fn add_part<S: Alter, R: PairedRow>(tx: &mut Transaction<'_, S>, part: &[R]) -> 
 }
 
 /// Adds rows, whose keys have to be free. After an error the first of them may be in the transaction.
-pub(crate) fn add_all<S: Alter, R: PairedRow>(
+pub fn add_all<S: Alter, R: PairedRow>(
     tx: &mut Transaction<'_, S>,
     rows: &[R],
 ) -> Result<(), RowFault>

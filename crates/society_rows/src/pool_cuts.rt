@@ -1,21 +1,18 @@
 //! The table of the cuts of pools.
-ghost use Rattle.std.specs.Prelude.{◌≡◌, map, take, IfOk, IfErr};
+ghost use Rattle.std.specs.Prelude.{◌≡◌, IfOk, IfErr};
 ghost use Rattle.sqlite.specs.Values.{bound};
 ghost use Rattle.society_rows.specs.declared.fault.RowFault.TheVariants.{Unread};
-ghost use Rattle.society_rows.specs.Effects.{LeavesFirst, OnlyFailsInside, Writes};
 ghost use Rattle.society_rows.specs.Forms.{IsRead, pool_cut_forms};
 ghost use Rattle.society_rows.specs.Layout.{pool_cuts};
 ghost use Rattle.society_rows.specs.Rows.{pool_cut_values};
-ghost use Rattle.society_rows.specs.Stored.{HasLayout, Adds};
-ghost use Rattle.society_rows.specs.Between.{within};
 
 use crate::RowFault;
 use crate::new_rows::NewRows;
-use crate::pairing::{PairedRow, add_all};
+use crate::pairing::PairedRow;
 use crate::reading::{text, whole};
 use crate::shapes::{Parent, Rows, TableShape};
+use sqlite::Row;
 use sqlite::types::ToSql;
-use sqlite::{Alter, Row, Transaction};
 use sqlite_schema::schema::Kind::{Integer, Text};
 use sqlite_value::value::ValueRef;
 
@@ -92,19 +89,4 @@ impl<'a> PairedRow for PoolCutRow<'a> {
     fn two<'b>(one: &'b Self, two: &'b Self) -> NewRows<'b> {
         NewRows::PoolCuts(one, two)
     }
-}
-
-/// Adds the cuts of pools, whose keys have to be free. After an error the first of them may be in the transaction.
-pub fn add_pool_cuts<S: Alter>(
-    tx: &mut Transaction<'_, S>,
-    rows: &[PoolCutRow<'_>],
-) -> Result<(), RowFault>
-    ensures same_reference { tx.new.conn.ghost_name ≡ tx.old.conn.ghost_name }
-    ensures written { within S.Store tx.old tx.new Writes result
-        (Adds pool_cuts (map pool_cut_values rows.now)) }
-    ensures left { within S.Store tx.old tx.new LeavesFirst result
-        (λ count. Adds pool_cuts (map pool_cut_values (take count rows.now))) }
-    ensures err { within S.Store tx.old tx.new (OnlyFailsInside HasLayout) result }
-{
-    add_all(tx, rows)
 }

@@ -1,21 +1,16 @@
 //! The table of pools.
-ghost use Rattle.std.specs.Prelude.{◌≡◌, [], ◌∷◌, IfOk, IfErr, FitsSigned};
+ghost use Rattle.std.specs.Prelude.{◌≡◌, IfOk, IfErr, FitsSigned};
 ghost use Rattle.std.specs.Int.{w64};
 ghost use Rattle.sqlite.specs.Values.{bound};
 ghost use Rattle.society_rows.specs.declared.fault.RowFault.TheVariants.{Unread};
-ghost use Rattle.society_rows.specs.Effects.{IsAllOrNothing, OnlyFails, Writes};
 ghost use Rattle.society_rows.specs.Forms.{IsRead, pool_forms};
-ghost use Rattle.society_rows.specs.Layout.{pools};
 ghost use Rattle.society_rows.specs.Rows.{pool_values};
-ghost use Rattle.society_rows.specs.Stored.{Adds};
-ghost use Rattle.society_rows.specs.Between.{within};
 
 use crate::RowFault;
-use crate::new_rows::{NewRows, add};
 use crate::reading::{integer, whole};
 use crate::shapes::{Rows, TableShape};
+use sqlite::Row;
 use sqlite::types::ToSql;
-use sqlite::{Alter, Row, Transaction};
 use sqlite_schema::schema::Kind::Integer;
 use sqlite_value::value::ValueRef;
 
@@ -62,15 +57,4 @@ impl PoolRow {
     {
         [self.pool.to_sql(), ValueRef::Int(self.amount)]
     }
-}
-
-/// Adds a pool, whose key has to be free.
-pub fn add_pool<S: Alter>(tx: &mut Transaction<'_, S>, row: &PoolRow) -> Result<(), RowFault>
-    ensures same_reference { tx.new.conn.ghost_name ≡ tx.old.conn.ghost_name }
-    ensures written { within S.Store tx.old tx.new Writes result
-        (Adds pools (pool_values row.now ∷ [])) }
-    ensures whole { within S.Store tx.old tx.new IsAllOrNothing result }
-    ensures err { within S.Store tx.old tx.new OnlyFails result }
-{
-    add(tx, NewRows::Pool(row))
 }

@@ -7,6 +7,7 @@ ghost use Rattle.society_rows.specs.QuestionTexts.{question_params, question_tex
 ghost use Rattle.society_rows.specs.Reads.{Reads};
 ghost use Rattle.society_rows.specs.Between.{between, within};
 
+use crate::derived_tables::{DerivedTable, first_column_of};
 use crate::statement::select;
 use crate::tables::shape_of;
 use crate::{Idle, RowFault, TableName};
@@ -33,6 +34,10 @@ pub enum Question<'a> {
     Return(&'a [u8], u32),
     /// The key of the return of a reporter under a number.
     HasReturn(&'a [u8], u32),
+    /// The keys of all transmissions.
+    TransmissionKeys,
+    /// The keys of all returns.
+    ReturnKeys,
     /// The pool of a number.
     Pool(u32),
     /// The row of a pool that is of mechanical rights.
@@ -59,6 +64,8 @@ pub enum Question<'a> {
     Credits(u32),
     /// The balance of an account.
     Balance(&'a [u8]),
+    /// The first column of each row of what is derived, the sender or the pool, in any order.
+    FirstColumns(DerivedTable),
 }
 
 // The query of a question.
@@ -88,6 +95,10 @@ fn query_of(question: Question<'_>) -> &'static str
         Question::HasReturn(_, _) => {
             "SELECT reporter, number FROM returns WHERE reporter = ?1 AND number = ?2 ORDER BY reporter, number"
         }
+        Question::TransmissionKeys => {
+            "SELECT sender, number FROM transmissions ORDER BY sender, number"
+        }
+        Question::ReturnKeys => "SELECT reporter, number FROM returns ORDER BY reporter, number",
         Question::Pool(_) => "SELECT pool, amount FROM pools WHERE pool = ?1 ORDER BY pool",
         Question::Mechanical(_) =>
             "SELECT pool FROM mechanical_pools WHERE pool = ?1 ORDER BY pool",
@@ -124,6 +135,7 @@ fn query_of(question: Question<'_>) -> &'static str
         Question::Balance(_) => {
             "SELECT account, units FROM balances WHERE account = ?1 ORDER BY account"
         }
+        Question::FirstColumns(table) => first_column_of(table),
     }
 }
 
@@ -155,7 +167,10 @@ pub fn answer<S: Alter>(
     ensures medium { within S.Store tx.old tx.new ErrsByMedium result }
 {
     match question {
-        Question::Office => answer_by(tx, question, &[]),
+        Question::Office
+        | Question::TransmissionKeys
+        | Question::ReturnKeys
+        | Question::FirstColumns(_) => answer_by(tx, question, &[]),
         Question::Front(key)
         | Question::Ends(key)
         | Question::SenderVerdicts(key)

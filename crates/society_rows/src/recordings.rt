@@ -1,22 +1,18 @@
 //! The table of recordings of versions.
-ghost use Rattle.std.specs.Prelude.{◌≡◌, map, take, [], ◌∷◌, IfOk, IfErr};
+ghost use Rattle.std.specs.Prelude.{◌≡◌, IfOk, IfErr};
 ghost use Rattle.sqlite_value.specs.declared.value.Value.TheVariants.{Text};
 ghost use Rattle.sqlite.specs.Values.{bound};
 ghost use Rattle.society_rows.specs.declared.fault.RowFault.TheVariants.{Unread};
-ghost use Rattle.society_rows.specs.Effects.{BlamesMedium, ErrsByMedium, LeavesFirst, OnlyFails, OnlyFailsInside, Writes};
 ghost use Rattle.society_rows.specs.Forms.{IsRead, recording_forms};
 ghost use Rattle.society_rows.specs.Layout.{recordings};
-ghost use Rattle.society_rows.specs.Reads.{Lists, Reads, has_key};
 ghost use Rattle.society_rows.specs.Rows.{recording_values};
-ghost use Rattle.society_rows.specs.Stored.{HasLayout, Adds};
-ghost use Rattle.society_rows.specs.Between.{within};
 
+use crate::RowFault;
 use crate::new_rows::NewRows;
-use crate::pairing::{PairedRow, add_all};
+use crate::pairing::PairedRow;
 use crate::reading::{integer, text};
 use crate::shapes::{Rows, TableShape};
-use crate::{Question, RowFault, answer};
-use sqlite::{Alter, Row, Transaction};
+use sqlite::Row;
 use sqlite_schema::schema::Kind::{Integer, Text};
 use sqlite_value::value::ValueRef;
 
@@ -90,34 +86,4 @@ impl<'a> PairedRow for RecordingRow<'a> {
     fn two<'b>(one: &'b Self, two: &'b Self) -> NewRows<'b> {
         NewRows::Recordings(one, two)
     }
-}
-
-/// Adds recordings of versions, whose keys have to be free. After an error the first of them may be in the transaction.
-pub fn add_recordings<S: Alter>(
-    tx: &mut Transaction<'_, S>,
-    rows: &[RecordingRow<'_>],
-) -> Result<(), RowFault>
-    ensures same_reference { tx.new.conn.ghost_name ≡ tx.old.conn.ghost_name }
-    ensures written { within S.Store tx.old tx.new Writes result
-        (Adds recordings (map recording_values rows.now)) }
-    ensures left { within S.Store tx.old tx.new LeavesFirst result
-        (λ count. Adds recordings (map recording_values (take count rows.now))) }
-    ensures err { within S.Store tx.old tx.new (OnlyFailsInside HasLayout) result }
-    ensures blamed { within S.Store tx.old tx.new BlamesMedium result }
-{
-    add_all(tx, rows)
-}
-
-/// The recordings of a sender's works, by work, revision and ISRC.
-pub fn sender_recordings<S: Alter>(
-    tx: &mut Transaction<'_, S>,
-    sender: &[u8],
-) -> Result<Vec<Row>, RowFault>
-    ensures same_reference { tx.new.conn.ghost_name ≡ tx.old.conn.ghost_name }
-    ensures read { within S.Store tx.old tx.new Reads result
-        (λ db rows. Lists recordings (has_key (Text sender.now ∷ [])) 4 db rows.items) }
-    ensures err { within S.Store tx.old tx.new OnlyFails result }
-    ensures medium { within S.Store tx.old tx.new ErrsByMedium result }
-{
-    answer(tx, Question::SenderRecordings(sender))
 }

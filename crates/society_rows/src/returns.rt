@@ -1,20 +1,15 @@
 //! The table of performance returns.
-ghost use Rattle.std.specs.Prelude.{◌≡◌, [], ◌∷◌, IfOk, IfErr};
+ghost use Rattle.std.specs.Prelude.{◌≡◌, IfOk, IfErr};
 ghost use Rattle.sqlite.specs.Values.{bound};
 ghost use Rattle.society_rows.specs.declared.fault.RowFault.TheVariants.{Unread};
-ghost use Rattle.society_rows.specs.Effects.{IsAllOrNothing, OnlyFails, Writes};
 ghost use Rattle.society_rows.specs.Forms.{IsRead, return_forms};
-ghost use Rattle.society_rows.specs.Layout.{returns};
 ghost use Rattle.society_rows.specs.Rows.{return_values};
-ghost use Rattle.society_rows.specs.Stored.{Adds};
-ghost use Rattle.society_rows.specs.Between.{within};
 
 use crate::RowFault;
-use crate::new_rows::{NewRows, add};
 use crate::reading::{bytes, text, whole};
 use crate::shapes::{Rows, TableShape};
+use sqlite::Row;
 use sqlite::types::ToSql;
-use sqlite::{Alter, Row, Transaction};
 use sqlite_schema::schema::Kind::{Blob, Integer, Text};
 use sqlite_value::value::ValueRef;
 
@@ -66,18 +61,4 @@ impl<'a> ReturnRow<'a> {
             ValueRef::Blob(self.body),
         ]
     }
-}
-
-/// Adds a return, whose key has to be free.
-pub fn add_return<S: Alter>(
-    tx: &mut Transaction<'_, S>,
-    row: &ReturnRow<'_>,
-) -> Result<(), RowFault>
-    ensures same_reference { tx.new.conn.ghost_name ≡ tx.old.conn.ghost_name }
-    ensures written { within S.Store tx.old tx.new Writes result
-        (Adds returns (return_values row.now ∷ [])) }
-    ensures whole { within S.Store tx.old tx.new IsAllOrNothing result }
-    ensures err { within S.Store tx.old tx.new OnlyFails result }
-{
-    add(tx, NewRows::Return(row))
 }

@@ -1,23 +1,18 @@
 //! The table of the ends of segments.
-ghost use Rattle.std.specs.Prelude.{◌≡◌, ◌≤◌, [], ◌∷◌, FitsSigned, IfOk, IfErr};
+ghost use Rattle.std.specs.Prelude.{◌≡◌, ◌≤◌, FitsSigned, IfOk, IfErr};
 ghost use Rattle.std.specs.Int.{w64};
 ghost use Rattle.sqlite.specs.Values.{bound};
 ghost use Rattle.society_rows.specs.declared.fault.RowFault.TheVariants.{Unread};
-ghost use Rattle.society_rows.specs.Effects.{IsAllOrNothing, OnlyFails, Writes};
 ghost use Rattle.society_rows.specs.Forms.{IsRead, segment_end_forms};
-ghost use Rattle.society_rows.specs.Layout.{segment_ends};
 ghost use Rattle.society_rows.specs.Rows.{segment_end_values};
 ghost use Rattle.society_rows.specs.SegmentColumns.{segment_column};
-ghost use Rattle.society_rows.specs.Stored.{Adds};
-ghost use Rattle.society_rows.specs.Between.{within};
 ghost use Rattle.work_ids.specs.Segments.{index_of};
 
 use crate::RowFault;
-use crate::new_rows::{NewRows, add};
 use crate::reading::{segment, text, whole};
 use crate::shapes::{Rows, TableShape};
+use sqlite::Row;
 use sqlite::types::ToSql;
-use sqlite::{Alter, Row, Transaction};
 use sqlite_schema::schema::Kind::{Integer, Text};
 use sqlite_value::value::ValueRef;
 use work_ids::Segment;
@@ -91,18 +86,4 @@ fn column_of(segment: Segment) -> i64
         Segment::Plain => -1,
         Segment::Year(year) => i64::from(year),
     }
-}
-
-/// Adds the end of a segment, whose key has to be free.
-pub fn add_segment_end<S: Alter>(
-    tx: &mut Transaction<'_, S>,
-    row: &SegmentEndRow<'_>,
-) -> Result<(), RowFault>
-    ensures same_reference { tx.new.conn.ghost_name ≡ tx.old.conn.ghost_name }
-    ensures written { within S.Store tx.old tx.new Writes result
-        (Adds segment_ends (segment_end_values row.now ∷ [])) }
-    ensures whole { within S.Store tx.old tx.new IsAllOrNothing result }
-    ensures err { within S.Store tx.old tx.new OnlyFails result }
-{
-    add(tx, NewRows::SegmentEnd(row))
 }

@@ -1,21 +1,15 @@
 //! The table of transmissions.
-ghost use Rattle.std.specs.Prelude.{◌≡◌, map, take, [], ◌∷◌, IfOk, IfErr};
+ghost use Rattle.std.specs.Prelude.{◌≡◌, IfOk, IfErr};
 ghost use Rattle.sqlite.specs.Values.{bound};
 ghost use Rattle.society_rows.specs.declared.fault.RowFault.TheVariants.{Unread};
-ghost use Rattle.society_rows.specs.Effects.{IsAllOrNothing, LeavesFirst, OnlyFails, OnlyFailsInside, Writes};
 ghost use Rattle.society_rows.specs.Forms.{IsRead, transmission_forms, transmission_key_forms};
-ghost use Rattle.society_rows.specs.Layout.{transmissions};
 ghost use Rattle.society_rows.specs.Rows.{transmission_values, transmission_key_values};
-ghost use Rattle.society_rows.specs.Stored.{HasLayout, Adds};
-ghost use Rattle.society_rows.specs.Between.{within};
 
 use crate::RowFault;
-use crate::new_rows::{NewRows, add};
-use crate::pairing::{PairedRow, add_all};
 use crate::reading::{bytes, text, whole};
 use crate::shapes::{Rows, TableShape};
+use sqlite::Row;
 use sqlite::types::ToSql;
-use sqlite::{Alter, Row, Transaction};
 use sqlite_schema::schema::Kind::{Blob, Integer, Text};
 use sqlite_value::value::ValueRef;
 
@@ -92,47 +86,4 @@ impl<'a> TransmissionKeyRow<'a> {
             number: whole(row, 1)?,
         })
     }
-}
-
-/// Adds a transmission, whose key has to be free.
-pub fn add_transmission<S: Alter>(
-    tx: &mut Transaction<'_, S>,
-    row: &TransmissionRow<'_>,
-) -> Result<(), RowFault>
-    ensures same_reference { tx.new.conn.ghost_name ≡ tx.old.conn.ghost_name }
-    ensures written { within S.Store tx.old tx.new Writes result
-        (Adds transmissions (transmission_values row.now ∷ [])) }
-    ensures whole { within S.Store tx.old tx.new IsAllOrNothing result }
-    ensures err { within S.Store tx.old tx.new OnlyFails result }
-{
-    add(tx, NewRows::Transmission(row))
-}
-
-impl<'a> PairedRow for TransmissionRow<'a> {
-    ghost table = { transmissions };
-
-    ghost values = { transmission_values };
-
-    fn one<'b>(row: &'b Self) -> NewRows<'b> {
-        NewRows::Transmission(row)
-    }
-
-    fn two<'b>(one: &'b Self, two: &'b Self) -> NewRows<'b> {
-        NewRows::Transmissions(one, two)
-    }
-}
-
-/// Adds transmissions, whose keys have to be free. After an error the first of them may be in the transaction.
-pub fn add_transmissions<S: Alter>(
-    tx: &mut Transaction<'_, S>,
-    rows: &[TransmissionRow<'_>],
-) -> Result<(), RowFault>
-    ensures same_reference { tx.new.conn.ghost_name ≡ tx.old.conn.ghost_name }
-    ensures written { within S.Store tx.old tx.new Writes result
-        (Adds transmissions (map transmission_values rows.now)) }
-    ensures left { within S.Store tx.old tx.new LeavesFirst result
-        (λ count. Adds transmissions (map transmission_values (take count rows.now))) }
-    ensures err { within S.Store tx.old tx.new (OnlyFailsInside HasLayout) result }
-{
-    add_all(tx, rows)
 }

@@ -1,21 +1,18 @@
 //! The table of versions of works.
-ghost use Rattle.std.specs.Prelude.{◌≡◌, map, take, IfOk, IfErr};
+ghost use Rattle.std.specs.Prelude.{◌≡◌, IfOk, IfErr};
 ghost use Rattle.sqlite.specs.Values.{bound};
 ghost use Rattle.society_rows.specs.declared.fault.RowFault.TheVariants.{Unread};
-ghost use Rattle.society_rows.specs.Effects.{BlamesMedium, LeavesFirst, OnlyFailsInside, Writes};
 ghost use Rattle.society_rows.specs.Forms.{IsRead, version_forms};
 ghost use Rattle.society_rows.specs.Layout.{versions};
 ghost use Rattle.society_rows.specs.Rows.{version_values};
-ghost use Rattle.society_rows.specs.Stored.{HasLayout, Adds};
-ghost use Rattle.society_rows.specs.Between.{within};
 
 use crate::RowFault;
 use crate::new_rows::NewRows;
-use crate::pairing::{PairedRow, add_all};
+use crate::pairing::PairedRow;
 use crate::reading::{integer, text, whole};
 use crate::shapes::{Rows, TableShape};
+use sqlite::Row;
 use sqlite::types::ToSql;
-use sqlite::{Alter, Row, Transaction};
 use sqlite_schema::schema::Kind::{Integer, Text};
 use sqlite_value::value::ValueRef;
 
@@ -97,20 +94,4 @@ impl<'a> PairedRow for VersionRow<'a> {
     fn two<'b>(one: &'b Self, two: &'b Self) -> NewRows<'b> {
         NewRows::Versions(one, two)
     }
-}
-
-/// Adds versions of works, whose keys have to be free. After an error the first of them may be in the transaction.
-pub fn add_versions<S: Alter>(
-    tx: &mut Transaction<'_, S>,
-    rows: &[VersionRow<'_>],
-) -> Result<(), RowFault>
-    ensures same_reference { tx.new.conn.ghost_name ≡ tx.old.conn.ghost_name }
-    ensures written { within S.Store tx.old tx.new Writes result
-        (Adds versions (map version_values rows.now)) }
-    ensures left { within S.Store tx.old tx.new LeavesFirst result
-        (λ count. Adds versions (map version_values (take count rows.now))) }
-    ensures err { within S.Store tx.old tx.new (OnlyFailsInside HasLayout) result }
-    ensures blamed { within S.Store tx.old tx.new BlamesMedium result }
-{
-    add_all(tx, rows)
 }

@@ -8,8 +8,8 @@ use crate::lists::{
 use crate::reads::{Read, read_all};
 use crate::typed::{Typed, is_there};
 use crate::writes::{
-    BALANCES, BOOK, ENDS, FRONTS, MECHANICAL, POOLS, VERDICTS, WORKS, Write, YEAR_END, write_all,
-    write_one,
+    BALANCES, BOOK, ENDS, FRONTS, MARK, MECHANICAL, NO_MARK, POOLS, VERDICTS, WORKS, Write,
+    YEAR_END, write_all, write_one,
 };
 use society_rows::{Question, RowFault, SegmentEndRow, TableName, answer, are_numbered};
 use sqlite::{Alter, Transaction};
@@ -50,19 +50,19 @@ const THE_BOOK: Case = Case {
         ),
         (
             &[
-                Read::Transmission(SENDER, 2),
-                Read::NumbersAbove(SENDER, 1),
-                Read::NumbersAbove(SENDER, 2),
-                Read::Return(b"RADIO1", 3),
+                Read::Of(Question::Transmission(SENDER, 2)),
+                Read::Of(Question::NumbersAbove(SENDER, 1)),
+                Read::Of(Question::NumbersAbove(SENDER, 2)),
+                Read::Of(Question::Return(b"RADIO1", 3)),
             ],
             "PB000000012|2|second|;PB000000012|2|;RADIO1|3|isrc,plays,seconds|;",
         ),
         (
             &[
-                Read::Pool(7),
-                Read::Cuts(7),
-                Read::Paid(b"RADIO1", 3),
-                Read::PaidBy(8),
+                Read::Of(Question::Pool(7)),
+                Read::Of(Question::Cuts(7)),
+                Read::Of(Question::Payer(b"RADIO1", 3)),
+                Read::Of(Question::PaidBy(8)),
             ],
             "7|1000000000000|;7|PB000000012|2|;RADIO1|3|7|;",
         ),
@@ -73,11 +73,7 @@ const MARKS: Case = Case {
     name: "ends_and_mechanical_pools_are_read_back",
     written: &[BOOK, POOLS, ENDS, MECHANICAL],
     // An end again, and pools that are marked, or not there.
-    refused: &[
-        (YEAR_END, false),
-        (Write::Mechanical(7), false),
-        (Write::Mechanical(8), false),
-    ],
+    refused: &[(YEAR_END, false), (MARK, false), (NO_MARK, false)],
     read: &[
         (
             &[
@@ -88,11 +84,11 @@ const MARKS: Case = Case {
         ),
         (
             &[
-                Read::Ends(SENDER),
-                Read::Mechanical(7),
-                Read::Mechanical(8),
-                Read::NumbersBetween(SENDER, 0, 2),
-                Read::NumbersBetween(SENDER, 1, 2),
+                Read::Of(Question::Ends(SENDER)),
+                Read::Of(Question::Mechanical(7)),
+                Read::Of(Question::Mechanical(8)),
+                Read::Of(Question::NumbersBetween(SENDER, 0, 2)),
+                Read::Of(Question::NumbersBetween(SENDER, 1, 2)),
             ],
             "PB000000012|-1|2|0|;PB000000012|0|9999|99|;7|;PB000000012|1|;",
         ),
@@ -119,7 +115,10 @@ const DERIVED: Case = Case {
             "PB000000012|1|0|21|0|0|;7|0|-|UNCLAIMED|5|;",
         ),
         (
-            &[Read::Versions(SENDER, b"W1"), Read::Verdicts(SENDER, 1)],
+            &[
+                Read::Of(Question::Versions(SENDER, b"W1")),
+                Read::Of(Question::Verdicts(SENDER, 1)),
+            ],
             "PB000000012|W1|0|1|0|99999999999|;PB000000012|W1|1|2|4|99999999999|;PB000000012|1|0|21|0|0|;",
         ),
     ],
@@ -136,9 +135,9 @@ const GIVING_WAY: Case = Case {
         ),
         (
             &[
-                Read::Credits(7),
-                Read::Front(SENDER),
-                Read::Balance(b"UNCLAIMED"),
+                Read::Of(Question::Credits(7)),
+                Read::Of(Question::Front(SENDER)),
+                Read::Of(Question::Balance(b"UNCLAIMED")),
             ],
             "7|0|-|UNCLAIMED|5|;PB000000012|2|1|;UNCLAIMED|999999999999999999|;",
         ),
@@ -176,7 +175,7 @@ const THREE_ROWS: Case = Case {
             "PB000000012|W1|0|1|3|7|;PB000000012|W1|1|1|3|7|;PB000000012|W1|2|1|3|7|;PB000000012|W1|0|ATABC2600001|;PB000000012|W1|1|ATABC2600001|;PB000000012|W1|2|ATABC2600001|;",
         ),
         (
-            &[Read::Credits(7)],
+            &[Read::Of(Question::Credits(7))],
             "7|0|-|UNCLAIMED|5|;7|1|-|UNCLAIMED|5|;7|2|-|UNCLAIMED|5|;",
         ),
     ],

@@ -1,8 +1,8 @@
 //! Rows as the types of their tables.
 use crate::book::SENDER;
-use crate::reads::{Read, rows};
 use society_rows::{
-    BalanceRow, FrontRow, MechanicalPoolRow, OfficeRow, RowFault, SegmentEndRow, TransmissionRow,
+    BalanceRow, FrontRow, MechanicalPoolRow, OfficeRow, Question, RowFault, SegmentEndRow,
+    TransmissionRow, answer,
 };
 use sqlite::{Alter, Row, Transaction};
 use work_ids::Segment;
@@ -60,15 +60,15 @@ fn are(rows: &[Row], what: Typed) -> bool {
 
 /// Whether it is there; the office's row is no transmission.
 pub fn is_there<S: Alter>(tx: &mut Transaction<'_, S>, what: Typed) -> Result<bool, RowFault> {
-    let read = match what {
-        Typed::Office => Read::Offices,
-        Typed::Second => Read::Transmission(SENDER, 2),
-        Typed::Front => Read::Front(SENDER),
-        Typed::Balance => Read::Balance(b"UNCLAIMED"),
-        Typed::Ends => Read::Ends(SENDER),
-        Typed::Mechanical => Read::Mechanical(7),
+    let question = match what {
+        Typed::Office => Question::Office,
+        Typed::Second => Question::Transmission(SENDER, 2),
+        Typed::Front => Question::Front(SENDER),
+        Typed::Balance => Question::Balance(b"UNCLAIMED"),
+        Typed::Ends => Question::Ends(SENDER),
+        Typed::Mechanical => Question::Mechanical(7),
     };
-    let rows = rows(tx, read)?;
+    let rows = answer(tx, question)?;
     let is_second = matches!(what, Typed::Second);
     Ok(are(rows.as_slice(), what) && are(rows.as_slice(), Typed::Second) == is_second)
 }

@@ -15,4 +15,4 @@ returns c =
     let all : c.add_stated.new.senders.items ≡ sent ++ stated =
     c.in_ok-add_stated.ensures ∙ ap (λ (l : List (List ℕ)). l ++ stated) (c.in_ok-add_sent.ensures ∙ ap (λ (l : List (List ℕ)). l ++ sent) c.new-senders.ensures.items) in
     subst (λ ks. IfOk c.collect.result (λ list. list.items ≡ ks))
-    (collected_ascends nat_list_cmp_total exact_bytes c.add_stated.new.senders.items c.in_ok-set.set c.in_ok-set.ensures ∙ ap (ascending bytes_cmp) all) listed
+    (collected_ascends nat_list_cmp_total exact_bytes c.add_stated.new.senders.items c.in_ok-set.set (rw c.as_slice.ensures.value at c.in_ok-set.ensures) ∙ ap (ascending bytes_cmp) all) listed

@@ -24,9 +24,9 @@ use Rattle.society_core.specs.declared.transmission_key.TransmissionKey.{Transmi
 use Rattle.society_core.proofs.lemmas.Books.{end_says}
 use Rattle.society_core.proofs.lemmas.KeyOrders.{exact_segments, segments_total}
 use Rattle.society_rows.specs.Layout as layout
-use Rattle.society_rows.specs.LineSenders.{ListsSenders, first_of, line_table}
+use Rattle.society_rows.specs.FirstColumns.{ListsFirstColumn, first_of, derived_table}
 use Rattle.society_rows.specs.Stored.{rows_in}
-use Rattle.society_rows.specs.declared.line_senders.LineTable.{LineTable}
+use Rattle.society_rows.specs.declared.derived_tables.DerivedTable.{DerivedTable}
 use Rattle.society_book.specs.Columns.{HasRows, text_at, text_of}
 use Rattle.society_book.specs.DerivedRows.{Telling, front_rows, has_sent, has_stated, is_named, knows_sender, tells_recordings, tells_verdict, tells_version, told_by, told_to_front, works_to}
 use Rattle.society_book.specs.Kept.{HoldsBook}
@@ -68,14 +68,14 @@ first_on set [] all = tt
 first_on set (r ∷ rows) all = (all.0, first_on set rows all.1)
 
 -- what was listed is of these where the table is
-pub these_listed : (set : BTreeSet (List ℕ)) (table : LineTable) (db : Trees) (found : List Row) → ListsSenders table db found → AllByRecursion (λ r. is_of_one set r ≡ true) found → AreOfThese set (line_table table) db
+pub these_listed : (set : BTreeSet (List ℕ)) (table : DerivedTable) (db : Trees) (found : List Row) → ListsFirstColumn table db found → AllByRecursion (λ r. is_of_one set r ≡ true) found → AreOfThese set (derived_table table) db
 these_listed set table db found lists all =
-    let firsts : List Row = map first_of (rows_in (line_table table) db) in
-    first_back set (rows_in (line_table table) db) (all-permutation (λ r. is_of_one set r ≡ true) found firsts (IsPermutation-sym firsts found lists) all)
+    let firsts : List Row = map first_of (rows_in (derived_table table) db) in
+    first_back set (rows_in (derived_table table) db) (all-permutation (λ r. is_of_one set r ≡ true) found firsts (IsPermutation-sym firsts found lists) all)
 
-pub listed_these : (set : BTreeSet (List ℕ)) (table : LineTable) (db : Trees) (found : List Row) → ListsSenders table db found → AreOfThese set (line_table table) db → AllByRecursion (λ r. is_of_one set r ≡ true) found
+pub listed_these : (set : BTreeSet (List ℕ)) (table : DerivedTable) (db : Trees) (found : List Row) → ListsFirstColumn table db found → AreOfThese set (derived_table table) db → AllByRecursion (λ r. is_of_one set r ≡ true) found
 listed_these set table db found lists all =
-    all-permutation (λ r. is_of_one set r ≡ true) (map first_of (rows_in (line_table table) db)) found lists (first_on set (rows_in (line_table table) db) all)
+    all-permutation (λ r. is_of_one set r ≡ true) (map first_of (rows_in (derived_table table) db)) found lists (first_on set (rows_in (derived_table table) db) all)
 
 -- ---- rows of these senders are lines of theirs
 

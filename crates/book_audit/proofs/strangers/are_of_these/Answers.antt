@@ -1,32 +1,27 @@
-use Rattle.std.proofs.Common.{◌≡◌, ◌∙◌, ap, refl, subst, sym, true}
-use Rattle.std.proofs.lemmas.Bool.{false≢true}
-use Rattle.std.proofs.lemmas.List.{take_all, take_more}
-use Rattle.std.specs.List.{AllByRecursion}
-use Rattle.sqlite_keyed.proofs.ListLemmas.{all-append}
-use Rattle.sqlite_trees.proofs.ListLemmas.{all-get_or}
+use Rattle.std.proofs.Common.{◌≡◌, ◌&&◌, ◌∙◌, ◌∷◌, [], Bool, List, ap₂, refl, rules, sym, tests, true}
+use Rattle.std.proofs.lemmas.Iterator.{YieldsList-from_slice}
+use Rattle.std.proofs.lemmas.Iterator.Search.{all_from_yields_List}
+use Rattle.std.specs.List.{AllByRecursion, list_all}
 use Rattle.sqlite_value.specs.Order.{Row}
+use Rattle.society_core.proofs.lemmas.CandidateLemmas.{both}
 use Rattle.book_audit.specs.Auditing.{is_of_one}
 use Rattle.book_audit.proofs.strangers.are_of_these.Goals as goal
 
-pub returns-then-not-is_of_one : goal.returns-then-not-is_of_one
-returns-then-not-is_of_one c =
-    let set = c.args.senders.now in (
-      λ no. absurd (false≢true no),
-      λ all. sym c.if-not-is_of_one.true ∙ c.is_of_one.ensures ∙ ap (is_of_one set) c.row-item.is
-          ∙ all-get_or (λ (row : Row). is_of_one set row ≡ true) c.args.rows.now c.loop-row.row-index c.row-item.result all c.loop-row-test.true,
-    )
+each_passes : (test : Row → Bool) (rows : List Row) → list_all test rows ≡ true → AllByRecursion (λ row. test row ≡ true) rows
+each_passes test [] all = tt
+each_passes test (row ∷ rows) all =
+    let two = both (test row) (list_all test rows) all in
+    (two.0, each_passes test rows two.1)
 
-pub loop-row-preserved : goal.loop-row-preserved
-loop-row-preserved c =
-    let set = c.args.senders.now in
-    let P : Row → Type 0 = λ row. is_of_one set row ≡ true in
-    let here : P c.row-item.result = sym c.is_of_one.ensures ∙ c.if-not-is_of_one.false in
-    subst (AllByRecursion P) (sym (take_more c.args.rows.now c.loop-row.row-index c.row-item.result c.loop-row-test.true))
-    (all-append P _ _ c.loop-row.invariant (subst P c.row-item.is here, tt))
+all_pass : (test : Row → Bool) (rows : List Row) → AllByRecursion (λ row. test row ≡ true) rows → list_all test rows ≡ true
+all_pass test [] each = refl
+all_pass test (row ∷ rows) each = ap₂ (λ a b. a && b) each.0 (all_pass test rows each.1)
 
 pub returns : goal.returns
 returns c =
-    let set = c.args.senders.now in (
-      λ yes. subst (AllByRecursion (λ (row : Row). is_of_one set row ≡ true)) (take_all c.loop-row.row-index c.args.rows.now c.loop-row-test.false) c.loop-row.invariant,
-      λ all. refl,
+    let test = is_of_one c.args.senders.now in
+    let rows = c.args.rows.now in
+    let all = all_from_yields_List test _ _ c.all.result c.all.ensures.ran (YieldsList-from_slice rows cc) (λ x b q k. search (rules, tests)) in (
+      λ yes. each_passes test rows (sym all ∙ yes),
+      λ each. all ∙ all_pass test rows each,
     )

@@ -4,7 +4,7 @@ use Rattle.std.specs.List.{AllByRecursion}
 use Rattle.std.specs.declared.alloc.Global.{Global}
 use Rattle.sqlite.specs.Held.{state}
 use Rattle.sqlite_value.specs.Order.{Row}
-use Rattle.society_rows.specs.LineSenders.{ListsSenders, line_table}
+use Rattle.society_rows.specs.FirstColumns.{ListsFirstColumn, derived_table}
 use Rattle.book_audit.specs.Examining.{Never}
 use Rattle.book_audit.specs.declared.audit_fault.AuditFault.TheVariants.{Damaged}
 use Rattle.book_audit.proofs.lemmas.Examinations.{examines_as}
@@ -20,7 +20,7 @@ returns-then-are_of_these-clause-examined g c =
     let rows = c.in_ok-rows.rows in
     let old = state g.S.Store c.args.tx.now.conn.now in
     let P : Row → Type 0 = λ r. is_of_one set r ≡ true in
-    examines_as {X = Vec Row Global} {Y = Unit {0}} Never (IsNot (AreOfThese set (line_table table))) old (state g.S.Store c.owners_of.new.tx.conn.now) rows (Ok tt) (λ db found. ListsSenders table db found.items) (λ db _. AreOfThese set (line_table table) db) c.in_ok-rows.ensures.examined
+    examines_as {X = Vec Row Global} {Y = Unit {0}} Never (IsNot (AreOfThese set (derived_table table))) old (state g.S.Store c.ask.new.tx.conn.now) rows (Ok tt) (λ db found. ListsFirstColumn table db found.items) (λ db _. AreOfThese set (derived_table table) db) c.in_ok-rows.ensures.examined
     (λ lists. these_listed set table old.now.trees rows.items lists (subst (AllByRecursion P) c.as_slice.ensures.value (c.are_of_these.ensures.0 c.if-are_of_these.true)))
     (λ lists. tt)
 
@@ -31,6 +31,6 @@ returns-clause-examined g c =
     let rows = c.in_ok-rows.rows in
     let old = state g.S.Store c.args.tx.now.conn.now in
     let P : Row → Type 0 = λ r. is_of_one set r ≡ true in
-    examines_as {X = Vec Row Global} {Y = Unit {0}} Never (IsNot (AreOfThese set (line_table table))) old (state g.S.Store c.owners_of.new.tx.conn.now) rows (Err Damaged) (λ db found. ListsSenders table db found.items) (λ db _. AreOfThese set (line_table table) db) c.in_ok-rows.ensures.examined
+    examines_as {X = Vec Row Global} {Y = Unit {0}} Never (IsNot (AreOfThese set (derived_table table))) old (state g.S.Store c.ask.new.tx.conn.now) rows (Err Damaged) (λ db found. ListsFirstColumn table db found.items) (λ db _. AreOfThese set (derived_table table) db) c.in_ok-rows.ensures.examined
     (λ lists. tt)
     (λ lists these. false≢true (sym c.if-are_of_these.false ∙ c.are_of_these.ensures.1 (subst (AllByRecursion P) (sym c.as_slice.ensures.value) (listed_these set table old.now.trees rows.items lists these))))

@@ -17,12 +17,12 @@ returns-clause-derives g c =
     let named = map recording_values c.args.recordings.now in
     let old = state g.S.Store c.args.tx.now.conn.now in
     let one = state g.S.Store c.put_front.new.tx.conn.now in
-    let two = state g.S.Store c.add_verdicts.new.tx.conn.now in
-    let three = state g.S.Store c.add_versions.new.tx.conn.now in
-    let four = state g.S.Store c.add_recordings.new.tx.conn.now in
-    let last = derives_adds layout.recordings named three four c.add_recordings.result c.wrote-4.result recordings_derived c.add_recordings.ensures.written c.add_recordings.ensures.blamed c.wrote-4.ensures.done c.wrote-4.ensures.err in
-    let third = derives_adds layout.versions told two three c.add_versions.result (Ok tt) versions_derived c.add_versions.ensures.written c.add_versions.ensures.blamed c.in_ok-wrote-3.ensures.done tt in
-    let second = derives_adds layout.verdicts judged one two c.add_verdicts.result (Ok tt) verdicts_derived c.add_verdicts.ensures.written c.add_verdicts.ensures.blamed c.in_ok-wrote-2.ensures.done tt in
+    let two = state g.S.Store c.add_all.new.tx.conn.now in
+    let three = state g.S.Store c.add_all-2.new.tx.conn.now in
+    let four = state g.S.Store c.add_all-3.new.tx.conn.now in
+    let last = derives_adds layout.recordings named three four c.add_all-3.result c.wrote-4.result recordings_derived c.add_all-3.ensures.written c.add_all-3.ensures.blamed c.wrote-4.ensures.done c.wrote-4.ensures.err in
+    let third = derives_adds layout.versions told two three c.add_all-2.result (Ok tt) versions_derived c.add_all-2.ensures.written c.add_all-2.ensures.blamed c.in_ok-wrote-3.ensures.done tt in
+    let second = derives_adds layout.verdicts judged one two c.add_all.result (Ok tt) verdicts_derived c.add_all.ensures.written c.add_all.ensures.blamed c.in_ok-wrote-2.ensures.done tt in
     let first = derives_puts layout.fronts front old one c.put_front.result (Ok tt) fronts_derived c.put_front.ensures.written c.put_front.ensures.blamed c.in_ok-wrote.ensures.done tt in
     let works = derives_then {X = Unit {0}} {Y = Unit {0}} Never Never Never two three four tt c.wrote-4.result (λ a b _. AddsRows layout.versions told a b) (λ a b _. AddsRows layout.recordings named a b) (λ a b _. AddsTold [] told named a b) third last
     (λ y p q adds more. works_of told named two.now.trees three.now.trees four.now.trees adds more) (λ p adds never. never) in

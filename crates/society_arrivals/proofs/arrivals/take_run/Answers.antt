@@ -15,9 +15,9 @@ returns-clause-does g c =
     let run = c.args.run.now in
     let old = state g.S.Store c.args.tx.now.conn.now in
     let mid = state g.S.Store c.put_run.new.tx.conn.now in
-    let new = state g.S.Store c.add_transmission.new.tx.conn.now in
-    does_then old mid new tt c.add_transmission.result _ _ _ c.in_ok-put_run.ensures.does
-    (rw (c.as_bytes.ensures.bytes, c.value.ensures.value) at (does_of mid new c.add_transmission.result _ c.add_transmission.ensures.written (λ before after adds. adds.layout)))
+    let new = state g.S.Store c.add.new.tx.conn.now in
+    does_then old mid new tt c.add.result _ _ _ c.in_ok-put_run.ensures.does
+    (rw (c.as_bytes.ensures.bytes, c.value.ensures.value) at (does_of mid new c.add.result _ c.add.ensures.written (λ before after adds. adds.layout)))
     (λ y puts adds o b holds at may goes.
     let sound = sound_with b s n body holds.sound may.free may.entry (fits b s n body holds.sound may) in
     let is = lined_by o b _ s run goes (next_order b s n body holds.sound may s).right (knows_sent b s n body) old.now.trees mid.now.trees holds (puts o b holds at) in

@@ -12,10 +12,10 @@ returns-clause-does g c =
     let told : List Row = map version_values c.args.versions.now in
     let named : List Row = map recording_values c.args.recordings.now in
     let old = state g.S.Store c.args.tx.now.conn.now in
-    let one = state g.S.Store c.add_verdicts.new.tx.conn.now in
-    let two = state g.S.Store c.add_versions.new.tx.conn.now in
-    let new = state g.S.Store c.add_recordings.new.tx.conn.now in
-    does_then old one new _ c.add_recordings.result _ (λ before after _. AddsTold [] told named before.trees after.trees) _ (does_of old one (Ok _) _ c.in_ok-add_verdicts.ensures.written (λ before after adds. adds.layout))
-    (does_then one two new _ c.add_recordings.result _ _ (λ before after _. AddsTold [] told named before.trees after.trees) (does_of one two (Ok _) _ c.in_ok-add_versions.ensures.written (λ before after adds. adds.layout)) (does_of two new c.add_recordings.result _ c.add_recordings.ensures.written (λ before after adds. adds.layout))
+    let one = state g.S.Store c.add_all.new.tx.conn.now in
+    let two = state g.S.Store c.add_all-2.new.tx.conn.now in
+    let new = state g.S.Store c.add_all-3.new.tx.conn.now in
+    does_then old one new _ c.add_all-3.result _ (λ before after _. AddsTold [] told named before.trees after.trees) _ (does_of old one (Ok _) _ c.in_ok-add_all.ensures.written (λ before after adds. adds.layout))
+    (does_then one two new _ c.add_all-3.result _ _ (λ before after _. AddsTold [] told named before.trees after.trees) (does_of one two (Ok _) _ c.in_ok-add_all-2.ensures.written (λ before after adds. adds.layout)) (does_of two new c.add_all-3.result _ c.add_all-3.ensures.written (λ before after adds. adds.layout))
     (λ y first second. tells_works told named one.now two.now new.now first second))
     (λ y first second. tells_all _ told named old.now one.now new.now first second)

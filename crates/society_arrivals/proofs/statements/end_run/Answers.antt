@@ -28,9 +28,9 @@ returns-clause-does g c =
     let run = c.args.run.now in
     let old = state g.S.Store c.args.tx.now.conn.now in
     let mid = state g.S.Store c.put_run.new.tx.conn.now in
-    let new = state g.S.Store c.add_segment_end.new.tx.conn.now in
-    does_then old mid new tt c.add_segment_end.result _ _ _ c.in_ok-put_run.ensures.does
-    (rw (c.as_bytes.ensures.bytes, c.segment.ensures, c.last.ensures.value, c.from.ensures, c.next.ensures) at (does_of mid new c.add_segment_end.result _ c.add_segment_end.ensures.written (λ before after adds. adds.layout)))
+    let new = state g.S.Store c.add.new.tx.conn.now in
+    does_then old mid new tt c.add.result _ _ _ c.in_ok-put_run.ensures.does
+    (rw (c.as_bytes.ensures.bytes, c.segment.ensures, c.last.ensures.value, c.from.ensures, c.next.ensures) at (does_of mid new c.add.result _ c.add.ensures.written (λ before after adds. adds.layout)))
     (λ y puts adds o b holds at may goes.
     let row_is : Text s ∷ Int (segment_column (place_stated stated)) ∷ Int (pos stated.last) ∷ Int (pos stated.next) ∷ [] ≡ end_row (segment_key s (place_stated stated)) (end_stated stated) =
     ap (λ (n : ℤ). Text s ∷ Int (segment_column (place_stated stated)) ∷ Int (pos stated.last) ∷ Int n ∷ []) (year_column stated.next) in

@@ -12,20 +12,20 @@ pub returns-in_err-commit-clause-survives : goal.returns-in_err-commit-clause-su
 returns-in_err-commit-clause-survives g c =
     let row = return_values c.args.row.now in
     let old = state g.S.Store c.args.conn.now in
-    let later = state g.S.Store c.add_return.new.tx.conn.now in
+    let later = state g.S.Store c.add.new.tx.conn.now in
     let new = state g.S.Store c.commit.new.self.0 in
     let done : SurvivesChange (ReturnComes row) old new =
-    written_survives g.S.Store c.args.conn.now later new (Adds returns (row ∷ [])) (ReturnComes row) (rw (c.transaction-tx.ensures.begun, c.conn.view_is) at c.in_ok-add_return.ensures.written)
-    (rw (c.transaction-tx.ensures.begun, c.conn.view_is) at c.in_ok-add_return.ensures.whole) (λ d e more. record { rows = more.rows; others = more.others }) c.commit.ensures.survives in
+    written_survives g.S.Store c.args.conn.now later new (Adds returns (row ∷ [])) (ReturnComes row) (rw (c.transaction-tx.ensures.begun, c.conn.view_is) at c.in_ok-add.ensures.written)
+    (rw (c.transaction-tx.ensures.begun, c.conn.view_is) at c.in_ok-add.ensures.whole) (λ d e more. record { rows = more.rows; others = more.others }) c.commit.ensures.survives in
     at_end (λ (z : State). SurvivesChange (ReturnComes row) old z) new _ (search rules) done
 
 pub returns-clause-survives : goal.returns-clause-survives
 returns-clause-survives g c =
     let row = return_values c.args.row.now in
     let old = state g.S.Store c.args.conn.now in
-    let later = state g.S.Store c.add_return.new.tx.conn.now in
+    let later = state g.S.Store c.add.new.tx.conn.now in
     let new = state g.S.Store c.commit.new.self.0 in
     let done : SurvivesChange (ReturnComes row) old new =
-    written_survives g.S.Store c.args.conn.now later new (Adds returns (row ∷ [])) (ReturnComes row) (rw (c.transaction-tx.ensures.begun, c.conn.view_is) at c.in_ok-add_return.ensures.written)
-    (rw (c.transaction-tx.ensures.begun, c.conn.view_is) at c.in_ok-add_return.ensures.whole) (λ d e more. record { rows = more.rows; others = more.others }) c.commit.ensures.survives in
+    written_survives g.S.Store c.args.conn.now later new (Adds returns (row ∷ [])) (ReturnComes row) (rw (c.transaction-tx.ensures.begun, c.conn.view_is) at c.in_ok-add.ensures.written)
+    (rw (c.transaction-tx.ensures.begun, c.conn.view_is) at c.in_ok-add.ensures.whole) (λ d e more. record { rows = more.rows; others = more.others }) c.commit.ensures.survives in
     at_end (λ (z : State). SurvivesChange (ReturnComes row) old z) new _ (search rules) done

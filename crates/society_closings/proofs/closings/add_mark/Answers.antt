@@ -11,5 +11,5 @@ returns-in-Performing-clause-does g c =
 pub returns-in-Mechanical-clause-does : goal.returns-in-Mechanical-clause-does
 returns-in-Mechanical-clause-does g c =
     let old = state g.S.Store c.args.tx.now.conn.now in
-    let new = state g.S.Store c.add_mechanical_pool.new.tx.conn.now in
-    rw c.in-Mechanical.is (does_of old new c.add_mechanical_pool.result _ c.add_mechanical_pool.ensures.written (λ before after adds. adds.layout))
+    let new = state g.S.Store c.add.new.tx.conn.now in
+    rw c.in-Mechanical.is (does_of old new c.add.result _ c.add.ensures.written (λ before after adds. adds.layout))

@@ -34,7 +34,6 @@ pub inserted : (rows : NewRows) → IsInsert (table_called (added rows).table) (
 unfolding understood everything written_out
 inserted (new.Office row) = record { is = λ _ _. refl; given = refl; stores = (λ rows. simp (cast_null, cast_int), tt) }
 inserted (new.Transmission row) = record { is = λ _ _. refl; given = refl; stores = (λ rows. simp (cast_null, cast_int), tt) }
-inserted (new.Transmissions one two) = record { is = λ _ _. refl; given = refl; stores = (λ rows. simp (cast_null, cast_int), (λ rows. simp (cast_null, cast_int), tt)) }
 inserted (new.Return row) = record { is = λ _ _. refl; given = refl; stores = (λ rows. simp (cast_null, cast_int), tt) }
 inserted (new.Pool row) = record { is = λ _ _. refl; given = refl; stores = (λ rows. simp (cast_null, cast_int), tt) }
 inserted (new.PoolCut row) = record { is = λ _ _. refl; given = refl; stores = (λ rows. simp (cast_null, cast_int), tt) }

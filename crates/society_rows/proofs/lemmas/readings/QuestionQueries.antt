@@ -14,6 +14,7 @@ use Rattle.society_rows.specs.Questions.{RowsAnswer}
 use Rattle.society_rows.specs.QuestionTexts.{question_text, question_params}
 use Rattle.society_rows.proofs.lemmas.definitions.Booleans.{and_true}
 use Rattle.society_rows.proofs.lemmas.readings.Queries.{IsReading}
+use Rattle.society_rows.proofs.lemmas.readings.TableQueries.{owned}
 use Rattle.society_rows.proofs.lemmas.readings.Selections.{keyed_by, lists, lists_keys, lists_first}
 
 -- under the first parameter as sender, and above the second as number
@@ -34,6 +35,8 @@ asked (question.NumbersBetween sender low high) = lists_keys transmissions betwe
 asked (question.Ends sender) = lists segment_ends (keyed_by segment_ends 1) 2 (λ r. refl) (λ a b. refl) (λ _ _ _ _. refl)
 asked (question.Return reporter number) = lists returns (keyed_by returns 2) 2 (λ r. refl) (λ a b. refl) (λ _ _ _ _. refl)
 asked (question.HasReturn reporter number) = lists_keys returns (keyed_by returns 2) 2 (λ r. refl) (λ a b. refl) (λ env. refl) (λ _ _ _ _. refl)
+asked question.TransmissionKeys = lists_keys transmissions [] 2 (λ r. refl) (λ a b. refl) (λ env. refl) (λ _ _ _ _. refl)
+asked question.ReturnKeys = lists_keys returns [] 2 (λ r. refl) (λ a b. refl) (λ env. refl) (λ _ _ _ _. refl)
 asked (question.Pool pool) = lists pools (keyed_by pools 1) 1 (λ r. refl) (λ a b. refl) (λ _ _ _ _. refl)
 asked (question.Mechanical pool) = lists mechanical_pools (keyed_by mechanical_pools 1) 1 (λ r. refl) (λ a b. refl) (λ _ _ _ _. refl)
 asked (question.Cuts pool) = lists pool_cuts (keyed_by pool_cuts 1) 2 (λ r. refl) (λ a b. refl) (λ _ _ _ _. refl)
@@ -47,3 +50,4 @@ asked (question.SenderVersions sender) = lists versions (keyed_by versions 1) 3 
 asked (question.SenderRecordings sender) = lists recordings (keyed_by recordings 1) 4 (λ r. refl) (λ a b. refl) (λ _ _ _ _. refl)
 asked (question.Credits pool) = lists credits_table (keyed_by credits_table 1) 2 (λ r. refl) (λ a b. refl) (λ _ _ _ _. refl)
 asked (question.Balance account) = lists balances (keyed_by balances 1) 1 (λ r. refl) (λ a b. refl) (λ _ _ _ _. refl)
+asked (question.FirstColumns table) = owned table

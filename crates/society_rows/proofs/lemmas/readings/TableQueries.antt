@@ -1,25 +1,21 @@
 -- What each query finds that goes over a whole table.
-use Rattle.std.proofs.Common.{◌≡◌, ◌∙◌, List, [], ◌∷◌, map, codes, true, refl, subst, sym, IsPermutation}
+use Rattle.std.proofs.Common.{◌≡◌, ◌∙◌, List, [], ◌∷◌, map, codes, refl, subst, sym, IsPermutation}
 use Rattle.std.proofs.lemmas.Simd.{map-map}
 use Rattle.sqlite_value.specs.Order.{Row, column}
 use Rattle.sqlite_tied.specs.Compute.{everything}
 use Rattle.sqlite.specs.Listing.{understood}
-use Rattle.society_rows.specs.declared.body_keys.BodyTable.{BodyTable}
-use Rattle.society_rows.specs.declared.body_keys.BodyTable.TheVariants as body
-use Rattle.society_rows.specs.declared.line_senders.LineTable.{LineTable}
-use Rattle.society_rows.specs.declared.line_senders.LineTable.TheVariants as line
+use Rattle.society_rows.specs.declared.derived_tables.DerivedTable.{DerivedTable}
+use Rattle.society_rows.specs.declared.derived_tables.DerivedTable.TheVariants as line
 use Rattle.society_rows.specs.declared.tables.TableName.{TableName}
 use Rattle.society_rows.specs.declared.tables.TableName.TheVariants as name
-use Rattle.society_rows.specs.BodyKeys.{all_keys_text, body_table}
 use Rattle.society_rows.specs.Layout.{written_out, office, transmissions, returns, pools, pool_cuts, pool_returns, fronts, verdicts, versions, recordings, credits_table, balances, segment_ends, mechanical_pools}
 use Rattle.society_rows.specs.Layouts.{first_table_count}
-use Rattle.society_rows.specs.LineSenders.{ListsSenders, first_of, line_table, senders_text}
+use Rattle.society_rows.specs.FirstColumns.{ListsFirstColumn, first_of, derived_table, first_column_text}
 use Rattle.society_rows.specs.Listings.{ListsAll}
-use Rattle.society_rows.specs.Reads.{ListsKeys}
 use Rattle.society_rows.specs.Stored.{values_of}
 use Rattle.society_rows.specs.TableNames.{listing_text, rowids_text, table_called}
 use Rattle.society_rows.proofs.lemmas.readings.Queries.{IsReading}
-use Rattle.society_rows.proofs.lemmas.readings.Selections.{lists, lists_keys, lists_column, finds_as}
+use Rattle.society_rows.proofs.lemmas.readings.Selections.{lists, lists_column, finds_as}
 
 -- all rows
 pub listed : (table : TableName) → IsReading (first_table_count table) [] (listing_text table) (ListsAll table)
@@ -38,12 +34,6 @@ listed name.Credits = lists credits_table [] 2 (λ r. refl) (λ a b. refl) (λ _
 listed name.Balances = lists balances [] 1 (λ r. refl) (λ a b. refl) (λ _ _ _ _. refl)
 listed name.SegmentEnds = lists segment_ends [] 4 (λ r. refl) (λ a b. refl) (λ _ _ _ _. refl)
 listed name.MechanicalPools = lists mechanical_pools [] 1 (λ r. refl) (λ a b. refl) (λ _ _ _ _. refl)
-
--- the keys of all rows
-pub keyed : (table : BodyTable) → IsReading 14 [] (all_keys_text table) (ListsKeys (body_table table) (λ _. true) 2)
-unfolding understood everything written_out
-keyed body.Transmissions = lists_keys transmissions [] 2 (λ r. refl) (λ a b. refl) (λ env. refl) (λ _ _ _ _. refl)
-keyed body.Returns = lists_keys returns [] 2 (λ r. refl) (λ a b. refl) (λ env. refl) (λ _ _ _ _. refl)
 
 -- the rowids, under the name that the column has
 pub numbered : (table : TableName) → IsReading (first_table_count table) [] (rowids_text table) (λ db. IsPermutation (map (λ r. column r 0 ∷ []) (db (table_called table).tree)))
@@ -64,7 +54,7 @@ numbered name.SegmentEnds = lists_column segment_ends.tree 0 (codes "rowid" ∷ 
 numbered name.MechanicalPools = lists_column mechanical_pools.tree 0 (codes "pool" ∷ []) (λ _ _ _ _. refl)
 
 -- the first column of a row, as it is stored
-first_is : (table : LineTable) (row : Row) → column row 1 ∷ [] ≡ first_of (values_of (line_table table) row)
+first_is : (table : DerivedTable) (row : Row) → column row 1 ∷ [] ≡ first_of (values_of (derived_table table) row)
 unfolding written_out
 first_is line.Fronts row = refl
 first_is line.Verdicts row = refl
@@ -72,16 +62,16 @@ first_is line.Versions row = refl
 first_is line.Recordings row = refl
 first_is line.Credits row = refl
 
-first_columns : (table : LineTable) → IsReading 14 [] (senders_text table) (λ db. IsPermutation (map (λ r. column r 1 ∷ []) (db (line_table table).tree)))
+stored_columns : (table : DerivedTable) → IsReading 14 [] (first_column_text table) (λ db. IsPermutation (map (λ r. column r 1 ∷ []) (db (derived_table table).tree)))
 unfolding understood everything written_out
-first_columns line.Fronts = lists_column fronts.tree 1 (codes "sender" ∷ []) (λ _ _ _ _. refl)
-first_columns line.Verdicts = lists_column verdicts.tree 1 (codes "sender" ∷ []) (λ _ _ _ _. refl)
-first_columns line.Versions = lists_column versions.tree 1 (codes "sender" ∷ []) (λ _ _ _ _. refl)
-first_columns line.Recordings = lists_column recordings.tree 1 (codes "sender" ∷ []) (λ _ _ _ _. refl)
-first_columns line.Credits = lists_column credits_table.tree 1 (codes "pool" ∷ []) (λ _ _ _ _. refl)
+stored_columns line.Fronts = lists_column fronts.tree 1 (codes "sender" ∷ []) (λ _ _ _ _. refl)
+stored_columns line.Verdicts = lists_column verdicts.tree 1 (codes "sender" ∷ []) (λ _ _ _ _. refl)
+stored_columns line.Versions = lists_column versions.tree 1 (codes "sender" ∷ []) (λ _ _ _ _. refl)
+stored_columns line.Recordings = lists_column recordings.tree 1 (codes "sender" ∷ []) (λ _ _ _ _. refl)
+stored_columns line.Credits = lists_column credits_table.tree 1 (codes "pool" ∷ []) (λ _ _ _ _. refl)
 
 -- the senders, or the pools
-pub owned : (table : LineTable) → IsReading 14 [] (senders_text table) (ListsSenders table)
-owned table = finds_as (first_columns table) (λ db rows.
-    let stored = db (line_table table).tree in
-    subst (λ (l : List Row). IsPermutation l rows) ((λ i. map (λ r. first_is table r i) stored) ∙ sym (map-map first_of (values_of (line_table table)) stored)))
+pub owned : (table : DerivedTable) → IsReading 14 [] (first_column_text table) (ListsFirstColumn table)
+owned table = finds_as (stored_columns table) (λ db rows.
+    let stored = db (derived_table table).tree in
+    subst (λ (l : List Row). IsPermutation l rows) ((λ i. map (λ r. first_is table r i) stored) ∙ sym (map-map first_of (values_of (derived_table table)) stored)))

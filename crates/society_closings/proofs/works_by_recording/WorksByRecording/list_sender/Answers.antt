@@ -19,20 +19,20 @@ use Rattle.society_closings.proofs.works_by_recording.WorksByRecording.list_send
 pub returns-clause-looks : goal.returns-clause-looks
 returns-clause-looks g c =
     let old = state g.S.Store c.args.tx.now.conn.now in
-    let new = state g.S.Store c.sender_recordings.new.tx.conn.now in
+    let new = state g.S.Store c.answer.new.tx.conn.now in
     looks_as old new c.in_ok-rows.rows (Ok tt) _ _ (looks_of old new (Ok c.in_ok-rows.rows) _ (rw c.as_bytes.ensures.bytes at c.in_ok-rows.ensures.read))
     (λ lists. sender_listed c.args.wanted.now c.list_rows.new.self c.args.sender.now old.now.trees _ _ c.as_bytes.ensures.key lists c.as_slice.ensures.value c.in_ok-list_rows.ensures.listed)
 
 pub returns-in_err-rows-clause-err : goal.returns-in_err-rows-clause-err
 returns-in_err-rows-clause-err g c =
     let old = state g.S.Store c.args.tx.now.conn.now in
-    let new = state g.S.Store c.sender_recordings.new.tx.conn.now in
+    let new = state g.S.Store c.answer.new.tx.conn.now in
     errs_on (Vec Row Global) HoldNoWorks HoldNoWorks old new _ c.from_residual.result (errs_of {X = Vec Row Global} HoldNoWorks old new (Err _) c.in_err-rows.ensures.err c.in_err-rows.ensures.medium) c.from_residual.ensures.1 (λ h. h)
 
 pub returns-in_err-list_rows-clause-err : goal.returns-in_err-list_rows-clause-err
 returns-in_err-list_rows-clause-err g c =
     let old = state g.S.Store c.args.tx.now.conn.now in
-    let new = state g.S.Store c.sender_recordings.new.tx.conn.now in
+    let new = state g.S.Store c.answer.new.tx.conn.now in
     let rows = c.as_slice.result.now in
     errs_as HoldNoWorks old new c.in_ok-rows.rows c.from_residual-in_err-list_rows.result _ (looks_of old new (Ok c.in_ok-rows.rows) _ c.in_ok-rows.ensures.read)
     (λ lists. blames_on (AllByRecursion IsRecordingRow rows → ⊥) (HoldNoWorks old.now.trees) _ c.from_residual-in_err-list_rows.result c.in_err-list_rows.ensures.blames c.from_residual-in_err-list_rows.ensures.1

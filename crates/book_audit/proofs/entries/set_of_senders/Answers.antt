@@ -1,9 +1,0 @@
-use Rattle.std.proofs.Common.{◌∙◌}
-use Rattle.std.proofs.lemmas.Iterator.Adapters.{YieldsList-from_vec, fact_from_collect}
-use Rattle.std.specs.BTreeSet.{IsFromIterResult}
-use Rattle.society_core.specs.Keys.{bytes_cmp}
-use Rattle.book_audit.proofs.entries.set_of_senders.Goals as goal
-
-pub returns : goal.returns
-returns c =
-    fact_from_collect (IsFromIterResult bytes_cmp) c.collect.result c.collect.ensures.ran (YieldsList-from_vec c.args.senders.items c.into_iter.ensures.rest (c.into_iter.ensures.len ∙ c.args.senders.ok.0))
