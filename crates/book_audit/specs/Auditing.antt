@@ -1,9 +1,8 @@
 -- What an audit finds of the rows of what is derived of senders' lines.
-use Rattle.std.specs.Prelude.{is_ok, ℕ, ◌≡◌, Bool, true, false, ◌&&◌, List, [], ◌∷◌, IsPermutation, flat_map, map, filter, length, pos}
+use Rattle.std.specs.Prelude.{is_ok, ℕ, ◌≡◌, Bool, true, ◌&&◌, List, [], ◌∷◌, IsPermutation, flat_map, map, filter, length, pos}
 use Rattle.std.specs.BTreeSet.{BTreeSet, contains}
 use Rattle.std.specs.List.{AllByRecursion}
 use Rattle.sqlite_value.specs.declared.value.Value.TheVariants.{Int, Text}
-use Rattle.sqlite_value.specs.declared.value.Value.{Value}
 use Rattle.sqlite_value.specs.Order.{Row, column}
 use Rattle.share_rules.specs.declared.office.Office.{Office}
 use Rattle.sqlite_schema.specs.declared.schema.Table.{Table}
@@ -18,14 +17,10 @@ use Rattle.society_book.specs.DerivedRows.{knows_sender, tells_recordings, tells
 use Rattle.society_arrivals.specs.Outcomes.{settled}
 use Rattle.society_arrivals.specs.Runs.{RunValue, behind_run, is_key_among, settled_recordings, settled_run, settled_verdict, settled_version}
 use Rattle.society_arrivals.specs.declared.outcomes.Outcome.{Outcome}
+use Rattle.book_audit.specs.Entries.{is_text}
 use Rattle.work_ids.specs.SenderKey.{sender_key_of}
 use Rattle.works_core.specs.Verdicts.{works_in}
 use Rattle.works_core.specs.Versions.{judged_of}
-
--- whether a value is a text
-abbrev pub is_text : Value → Bool
-is_text (Text bytes) = true
-is_text _ = false
 
 -- the rows of a sender
 abbrev pub of_sender : List ℕ → Row → Bool

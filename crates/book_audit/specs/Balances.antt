@@ -11,9 +11,10 @@ use Rattle.sqlite_value.specs.declared.value.Value.TheVariants.{Int, Text}
 use Rattle.sqlite_value.specs.Order.{Row}
 use Rattle.society_rows.specs.Layout as layout
 use Rattle.society_rows.specs.Stored.{rows_in}
+use Rattle.society_closings.specs.Closings.{row_of_account}
 use Rattle.society_book.specs.BookRows.{row_of_some}
 use Rattle.society_book.specs.Columns.{HasRows}
-use Rattle.society_book.specs.DerivedRows.{balance_rows_by, is_named}
+use Rattle.society_book.specs.DerivedRows.{is_named}
 use Rattle.work_ids.specs.Account.{account_text}
 use Rattle.book_audit.specs.declared.totals.Totals.{Totals}
 
@@ -26,8 +27,8 @@ abbrev pub units_at : BTreeMap (Vec ℕ Global) ℕ → List ℕ → Option ℕ
 units_at units account = tree.get_by (λ key. slice_cmp nat_cmp account key.items) units
 
 -- these units are added to those at a text, and those at other texts are as they were
-abbrev pub AddsUnits : List ℕ → ℕ → BTreeMap (Vec ℕ Global) ℕ → BTreeMap (Vec ℕ Global) ℕ → Type 0
-AddsUnits account more old new = (other : List ℕ) → units_at new other ≡ if bytes_eq account other then Some (unwrap_or (units_at old account) 0 + more) else units_at old other
+abbrev pub AddsToAccount : List ℕ → ℕ → BTreeMap (Vec ℕ Global) ℕ → BTreeMap (Vec ℕ Global) ℕ → Type 0
+AddsToAccount account more old new = (other : List ℕ) → units_at new other ≡ if bytes_eq account other then Some (unwrap_or (units_at old account) 0 + more) else units_at old other
 
 -- the units at a text are taken out, and those at other texts are as they were
 abbrev pub TakesOut : List ℕ → BTreeMap (Vec ℕ Global) ℕ → BTreeMap (Vec ℕ Global) ℕ → Type 0
@@ -41,14 +42,18 @@ row_by_units units account = row_of_some (balance_row account) (units_at units a
 abbrev pub to_account : List ℕ → List Credit → List Credit
 to_account account credits = filter (λ credit. bytes_eq account (account_text credit.account)) credits
 
--- the row of an account by some credits
-abbrev pub row_of_account : List Credit → List ℕ → List Row
-row_of_account credits account = balance_rows_by account (to_account account credits)
-
 -- this is what each account has come to by these credits
-abbrev pub ComesTo : Totals → List Credit → Type 0
-ComesTo totals credits = (account : List ℕ) → row_by_units totals.units account ≡ row_of_account credits account
+abbrev pub AreTotalsOf : Totals → List Credit → Type 0
+AreTotalsOf totals credits = (account : List ℕ) → row_by_units totals.units account ≡ row_of_account credits account
 
 -- the rows of balances are exactly those by these credits
 abbrev pub HasBalances : List Credit → Trees → Type 0
 HasBalances credits db = HasRows is_named (row_of_account credits) (rows_in layout.balances db)
+
+-- they are those by whatever credits accounts have come to this
+abbrev pub FindsBalances : Totals → Trees → Type 0
+FindsBalances totals db = (credits : List Credit) → AreTotalsOf totals credits → HasBalances credits db
+
+-- they are those by no credits by which accounts have come to this
+abbrev pub DeniesBalances : Totals → Trees → Type 0
+DeniesBalances totals db = (credits : List Credit) → AreTotalsOf totals credits → HasBalances credits db → ⊥

@@ -41,9 +41,5 @@ abbrev pub IsCreditOf : BTreeSet ℕ → Row → Type 0
 IsCreditOf pools row = (column row 0 ≡ Int (pos (whole_number_at 0 row))) × (contains nat_cmp pools (whole_number_at 0 row) ≡ true) × (whole_number_at 0 row < 2 ^ 32)
 
 -- so does each line of credits
-abbrev pub AreCreditsOf : BTreeSet ℕ → Trees → Type 0
-AreCreditsOf pools db = AllByRecursion (IsCreditOf pools) (rows_in layout.credits_table db)
-
--- this is not so
-abbrev pub IsNot : (Trees → Type 0) → Trees → Type 0
-IsNot Says db = Says db → ⊥
+abbrev pub AreCreditsOfPools : BTreeSet ℕ → Trees → Type 0
+AreCreditsOfPools pools db = AllByRecursion (IsCreditOf pools) (rows_in layout.credits_table db)

@@ -26,6 +26,10 @@ AuditFaultSays Wrong old new audit.Memory = Unit {0}
 AuditFaultSays Wrong old new audit.Store = MayFail old new
 AuditFaultSays Wrong old new audit.Damaged = Wrong old.now.trees
 
+-- this is not so
+abbrev pub IsNot : (Trees → Type 0) → Trees → Type 0
+IsNot Says db = Says db → ⊥
+
 -- the same of what is worked out of rows that were read: the database cannot fail then
 abbrev pub Judges : Type 0 → AuditFault → Type 0
 Judges Wrong audit.Memory = Unit {0}

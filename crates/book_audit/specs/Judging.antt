@@ -28,12 +28,12 @@ abbrev pub is_sent_key : Row → Bool
 is_sent_key row = has_key_form row && is_sender_key (text_at 0 row) && is_transmission_number (whole_number_at 1 row)
 
 -- whether bytes are those of a reporter, written without the blanks that fill it
-abbrev pub is_spelled : List ℕ → Bool
-is_spelled bytes = bytes_eq (without_trailing_blanks (fill 20 bytes)) bytes && is_reporter (fill 20 bytes)
+abbrev pub is_reporter_spelled : List ℕ → Bool
+is_reporter_spelled bytes = bytes_eq (without_trailing_blanks (fill 20 bytes)) bytes && is_reporter (fill 20 bytes)
 
 -- whether a row is the key of a return, its reporter written without the blanks that fill it
 abbrev pub is_reported_key : Row → Bool
-is_reported_key row = has_key_form row && is_spelled (text_at 0 row) && is_return_number (whole_number_at 1 row)
+is_reported_key row = has_key_form row && is_reporter_spelled (text_at 0 row) && is_return_number (whole_number_at 1 row)
 
 -- whether rows are one, and that is right
 abbrev pub is_one_right : (Row → Bool) → List Row → Bool

@@ -23,8 +23,9 @@ use Rattle.society_arrivals.specs.declared.outcomes.Outcome.{Outcome}
 use Rattle.works_core.specs.Verdicts.{works_in}
 use Rattle.works_core.specs.Versions.{judged_of}
 use Rattle.book_audit.specs.declared.audit_fault.AuditFault.{AuditFault}
-use Rattle.book_audit.specs.Examining.{Examines, HoldsNot}
-use Rattle.book_audit.specs.Auditing.{AreSenders, HasLine, HasRowsOf, is_of_one}
+use Rattle.book_audit.specs.Examining.{Examines, HoldsNot, IsNot}
+use Rattle.book_audit.specs.Alike.{IsExact}
+use Rattle.book_audit.specs.Auditing.{AreSenders, HasLine, HasOutcomes, HasRowsOf, is_of_one}
 
 -- a front and outcomes are what the transmissions of a sender's whole line come to, as it is noted
 pub record SettlesLine (sender : List ℕ) (run : RunValue) (front : FrontRow) (outcomes : List Outcome) : Type 0 where
@@ -41,10 +42,6 @@ abbrev pub FindsLines : Office → List (List ℕ) → Trees → Type 0
 FindsLines office senders db =
     (book : Book) → KeepsSent book db → ((sender : List ℕ) → AreOrderly book.transmissions book.ends sender) → AllByRecursion (λ sender. HasLine office book sender db) senders
 
--- this is not so
-abbrev pub IsNot : (Trees → Type 0) → Trees → Type 0
-IsNot Says db = Says db → ⊥
-
 -- if this is a sender of the book that the tables stand for, they do not hold that book of this office
 abbrev pub DeniesLine : Office → List ℕ → Trees → Type 0
 DeniesLine office sender db = knows_sender (book_of db) sender ≡ true → HoldsNot office db
@@ -54,12 +51,21 @@ abbrev pub DeniesLines : Office → List (List ℕ) → Trees → Type 0
 DeniesLines office senders db = AreSenders (book_of db) senders → HoldsNot office db
 
 -- the rows that answer a question are all that a table has of a sender
-abbrev pub AsksFor : (Trees → List Row → Type 0) → Table → List ℕ → ℕ → Type 0
-AsksFor Answers table sender width = (db : Trees) (rows : List Row) → Answers db rows → Lists table (has_key (Text sender ∷ [])) width db rows
+abbrev pub AnswersFor : (Trees → List Row → Type 0) → Table → List ℕ → ℕ → Type 0
+AnswersFor Answers table sender width = (db : Trees) (rows : List Row) → Answers db rows → Lists table (has_key (Text sender ∷ [])) width db rows
 
 -- an examination of whether the rows that a table has of a sender are these
 abbrev pub Compares : Table → List ℕ → List Row → State → State → Result (Unit {0}) AuditFault → Type 0
 Compares table sender rows old new result = Examines (IsNot (HasRowsOf table sender rows)) old new result (λ db _. HasRowsOf table sender rows db)
+
+-- the same of rows that answer a question, where the rows that are wanted are told apart
+abbrev pub ComparesAnswer : (Trees → List Row → Type 0) → List Row → State → State → Result (Unit {0}) AuditFault → Type 0
+ComparesAnswer Answers wanted old new result =
+    (table : Table) (sender : List ℕ) (width : ℕ) → AnswersFor Answers table sender width → AllByRecursion IsExact wanted → Compares table sender wanted old new result
+
+-- the tables have of a sender this front and what these outcomes tell
+abbrev pub HasSettled : FrontRow → List Outcome → Trees → Type 0
+HasSettled front outcomes = HasOutcomes front.sender.now (front_values front) outcomes
 
 -- each row of a table begins with one of these senders
 abbrev pub AreOfThese : BTreeSet (List ℕ) → Table → Trees → Type 0

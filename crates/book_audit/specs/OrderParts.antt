@@ -1,5 +1,5 @@
 -- What the orders of pools say, by the pools' numbers (representation).
-use Rattle.std.specs.Prelude.{ℕ, ◌==◌, ◌≡◌, ◌≤◌, true, List, [], ◌∷◌, Option, None, Some, Vec, filter, length, map, if◌then◌else◌}
+use Rattle.std.specs.Prelude.{ℕ, ◌==◌, ◌≡◌, ◌≤◌, true, List, [], ◌∷◌, None, Vec, filter, length, map, if◌then◌else◌}
 use Rattle.std.specs.BTreeMap as tree
 use Rattle.std.specs.BTreeMap.{BTreeMap}
 use Rattle.std.specs.BTreeSet.{BTreeSet, contains}
@@ -16,15 +16,11 @@ use Rattle.work_ids.specs.Blanks.{fill, without_trailing_blanks}
 use Rattle.work_ids.specs.Reporter.{reporter_of}
 use Rattle.work_ids.specs.SenderKey.{is_sender_key}
 use Rattle.std.specs.Prelude.{Ok}
+use Rattle.society_closings.specs.CutWorks.{items_or_none}
 use Rattle.society_core.specs.Orders.{Order, order_fault, order_of}
 use Rattle.book_audit.specs.Pools.{cut_pair, paid_pair}
 use Rattle.book_audit.specs.declared.order_parts.OrderParts.{OrderParts}
 use Rattle.book_audit.specs.declared.pool_tables.PoolRows.{PoolRows}
-
--- the items of a list, none where there is no list
-abbrev pub items_or_none : {T : Type 0} → Option (Vec T Global) → List T
-items_or_none None = []
-items_or_none (Some list) = list.items
 
 -- the items of a pool
 abbrev pub items_kept : {T : Type 0} → BTreeMap ℕ (Vec T Global) → ℕ → List T
@@ -47,13 +43,13 @@ abbrev pub kind_kept : OrderParts → ℕ → Kind
 kind_kept parts pool = if contains nat_cmp parts.mechanical pool then Mechanical else Performing
 
 -- of no pool is there more than one row
-abbrev pub AreOnce : List Row → Type 0
-AreOnce rows = (pool : ℕ) → length (filter (is_of_pool 0 pool) rows) ≤ 1
+abbrev pub StandOnce : List Row → Type 0
+StandOnce rows = (pool : ℕ) → length (filter (is_of_pool 0 pool) rows) ≤ 1
 
 -- they are the numbers of these rows of pools, each of which stands once
 pub record Numbers (rows : List Row) (numbers : BTreeSet ℕ) : Type 0 where
   pub these : (pool : ℕ) → contains nat_cmp numbers pool ≡ list_any (is_of_pool 0 pool) rows
-  pub once : AreOnce rows
+  pub once : StandOnce rows
 
 -- the row is that of a sender's cut in one of these pools
 pub record IsKnownCut (pools : BTreeSet ℕ) (row : Row) : Type 0 where
@@ -101,7 +97,7 @@ pub record ArePaidOf (pools : BTreeSet ℕ) (rows : List Row) (returns : BTreeMa
 -- they are the pools that these rows mark, each once and one of these pools
 pub record AreMarksOf (pools : BTreeSet ℕ) (rows : List Row) (marked : BTreeSet ℕ) : Type 0 where
   pub each : AllByRecursion (SaysMark pools) rows
-  pub once : AreOnce rows
+  pub once : StandOnce rows
   pub kept : (pool : ℕ) → contains nat_cmp marked pool ≡ list_any (is_of_pool 0 pool) rows
 
 -- they are what these rows say of these pools, each of which has one row

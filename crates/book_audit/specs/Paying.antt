@@ -23,8 +23,8 @@ use Rattle.society_closings.specs.CutWorks.{Wants}
 use Rattle.society_closings.specs.declared.wanted.Wanted.{Wanted}
 use Rattle.society_closings.specs.declared.pool_works.PoolWorks.{PoolWorks}
 use Rattle.book_audit.specs.Audited.{IsNumbered, IsRegistered}
-use Rattle.book_audit.specs.Balances.{ComesTo, HasBalances}
-use Rattle.book_audit.specs.Credits.{AreCreditsOf, HasCredits}
+use Rattle.book_audit.specs.Balances.{AreTotalsOf, HasBalances}
+use Rattle.book_audit.specs.Credits.{AreCreditsOfPools, HasCredits}
 use Rattle.book_audit.specs.Pools.{orders_by}
 use Rattle.book_audit.specs.declared.pool_orders.ClosedPool.{ClosedPool}
 use Rattle.book_audit.specs.declared.totals.Totals.{Totals}
@@ -52,7 +52,7 @@ credits_by office book closed = flat_map (λ (c : ClosedPool). credits_of office
 -- so some of these pools pay, and this is what accounts have come to by them, in every book whose works the tables have and in which all cuts are reached
 abbrev pub FindsPaid : Office → List ClosedPool → List ClosedPool → Trees → Totals → Type 0
 FindsPaid office all some db totals =
-    (book : Book) → HoldsWorks office book db → AreReachedIn book all → PayIn office book db some × ComesTo totals (credits_by office book some)
+    (book : Book) → HoldsWorks office book db → AreReachedIn book all → PayIn office book db some × AreTotalsOf totals (credits_by office book some)
 
 -- the tables have the works of no book of this office out of which each of these pools can be paid
 abbrev pub CannotPayAll : Office → List ClosedPool → Trees → Type 0
@@ -71,8 +71,16 @@ abbrev pub WantsAll : List ClosedPool → Trees → Wanted → Type 0
 WantsAll closed db wanted = AllByRecursion (λ (c : ClosedPool). WantsOrder c.order db wanted) closed
 
 -- the works are listed that each of these pools looks for
-abbrev pub ListsAll : Office → List ClosedPool → Trees → PoolWorks → Type 0
-ListsAll office closed db works = AllByRecursion (λ (c : ClosedPool). ListsOrder office c.order db works) closed
+abbrev pub ListsForAll : Office → List ClosedPool → Trees → PoolWorks → Type 0
+ListsForAll office closed db works = AllByRecursion (λ (c : ClosedPool). ListsOrder office c.order db works) closed
+
+-- where the works are so listed, this is what accounts have come to by these pools
+abbrev pub FindsPaidAmong : Office → List ClosedPool → PoolWorks → Trees → Totals → Type 0
+FindsPaidAmong office closed works db totals = ListsForAll office closed db works → FindsPaid office closed closed db totals
+
+-- where they are so listed, the tables hold no book of this office in which the pools are
+abbrev pub LackPoolsAmong : Office → List ClosedPool → PoolWorks → Trees → Type 0
+LackPoolsAmong office closed works db = ListsForAll office closed db works → LackPools office closed db
 
 -- these are the numbers of the pools
 abbrev pub AreNumbersOf : List ClosedPool → BTreeSet ℕ → Type 0
@@ -102,7 +110,7 @@ CompletesBook office db = HoldsUnpaid office db → HoldsOwnBook office db
 pub record FindsPools (office : Office) (closed : List ClosedPool) (db : Trees) : Type 0 where
   pub numbers : BTreeSet ℕ
   pub these : AreNumbersOf closed numbers
-  pub owners : AreCreditsOf numbers db
+  pub owners : AreCreditsOfPools numbers db
   pub paid : (book : Book) → HoldsWorks office book db → AreReachedIn book closed → PayIn office book db closed × HasBalances (credits_by office book closed) db
 
 -- the order that a pool has among some

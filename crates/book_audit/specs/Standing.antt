@@ -50,12 +50,12 @@ abbrev pub KnowsReach : Trees → Reached → Type 0
 KnowsReach db reached = (sender : List ℕ) (reach : Reach) → tree.get bytes_cmp reached.by_sender sender ≡ Some reach → IsReach sender db reach
 
 -- it is known of a sender
-abbrev pub IsKnown : List ℕ → Reached → Type 0
-IsKnown sender reached = is_some (tree.get bytes_cmp reached.by_sender sender) ≡ true
+abbrev pub IsReachKnown : List ℕ → Reached → Type 0
+IsReachKnown sender reached = is_some (tree.get bytes_cmp reached.by_sender sender) ≡ true
 
 -- what was known is known still, and so is how far this sender came
-abbrev pub Learns : List ℕ → Reached → Reached → Trees → Type 0
-Learns sender old new db = KnowsReach db old → KnowsReach db new × IsKnown sender new
+abbrev pub LearnsReach : List ℕ → Reached → Reached → Trees → Type 0
+LearnsReach sender old new db = KnowsReach db old → KnowsReach db new × IsReachKnown sender new
 
 -- an answer is whether each number of a cut is in its sender's line
 abbrev pub TellsCut : List TransmissionKey → Trees → Bool → Type 0

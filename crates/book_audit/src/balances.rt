@@ -1,8 +1,7 @@
 //! The rows of balances, beside what accounts have come to.
-ghost use Rattle.std.specs.Prelude.{◌≡◌, ◌∷◌, ◌↔◌, [], List, IfErr, IsTrue, OnOk};
-ghost use Rattle.book_audit.specs.Balances.{ComesTo, HasBalances, TakesOut, row_by_units};
+ghost use Rattle.std.specs.Prelude.{◌≡◌, ◌∷◌, ◌↔◌, [], IfErr, IsTrue, OnOk};
+ghost use Rattle.book_audit.specs.Balances.{DeniesBalances, FindsBalances, TakesOut, row_by_units};
 ghost use Rattle.book_audit.specs.Examining.{Examines, Judges};
-ghost use Rattle.pool_split.specs.declared.claim.Credit.{Credit as CreditValue};
 ghost use Rattle.society_book.specs.Columns.{HasRows, text_at};
 ghost use Rattle.society_book.specs.DerivedRows.{is_named};
 ghost use Rattle.society_rows.specs.Between.{within};
@@ -58,8 +57,7 @@ pub fn balances_agree<S: Alter>(
     totals: Totals,
 ) -> Result<(), AuditFault>
     ensures same_reference { tx.new.conn.ghost_name ≡ tx.old.conn.ghost_name }
-    ensures examined { within S.Store tx.old tx.new (Examines (λ db. (credits : List CreditValue) → ComesTo totals credits → HasBalances credits db → ⊥)) result
-        (λ db _. (credits : List CreditValue) → ComesTo totals credits → HasBalances credits db) }
+    ensures examined { within S.Store tx.old tx.new (Examines (DeniesBalances totals)) result (λ db _. FindsBalances totals db) }
 {
     let rows = list_of(tx, TableName::Balances)?;
     rows_agree(rows.as_slice(), totals.units)

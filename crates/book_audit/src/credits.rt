@@ -1,7 +1,7 @@
 //! What a pool pays by the tables, worked out anew in a transaction and compared with the lines of its credits.
 ghost use Rattle.std.specs.Prelude.{◌≡◌, map, IfErr, IfOk, Ok};
-ghost use Rattle.book_audit.specs.Examining.{Examines};
-ghost use Rattle.book_audit.specs.Credits.{FindsCredits, HasCredits, HasNoPool, IsNot, credit_lines};
+ghost use Rattle.book_audit.specs.Examining.{Examines, IsNot};
+ghost use Rattle.book_audit.specs.Credits.{FindsCredits, HasCredits, HasNoPool, credit_lines};
 ghost use Rattle.book_audit.specs.CreditSteps.{HasLines, ListsOnly};
 ghost use Rattle.society_closings.specs.Blamed.{CannotPayAmong};
 ghost use Rattle.society_closings.specs.Closings.{PaysAmong};

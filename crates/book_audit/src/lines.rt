@@ -1,11 +1,9 @@
 //! What is derived of the transmissions of a database, worked out sender by sender in a transaction and compared with its rows; of the
 //! bodies one at a time is kept, and of what is worked out a sender's.
-ghost use Rattle.std.specs.Prelude.{◌≡◌, ◌∷◌, ℕ, [], flat_map, map, IfErr, IfOk, List, Ok};
-ghost use Rattle.std.specs.List.{AllByRecursion};
-ghost use Rattle.book_audit.specs.Examining.{Examines, HoldsNot};
-ghost use Rattle.book_audit.specs.Alike.{IsExact};
-ghost use Rattle.book_audit.specs.Auditing.{AreLinesOf, AreSenders, HasOutcomes, HasRun};
-ghost use Rattle.book_audit.specs.LineSteps.{AsksFor, Compares, DeniesLine, DeniesLines, FindsLine, FindsLines, IsNot, SettlesLine};
+ghost use Rattle.std.specs.Prelude.{◌≡◌, ◌∷◌, [], flat_map, map, IfErr, IfOk, Ok};
+ghost use Rattle.book_audit.specs.Examining.{Examines, HoldsNot, IsNot};
+ghost use Rattle.book_audit.specs.Auditing.{AreLinesOf, AreSenders, HasRun};
+ghost use Rattle.book_audit.specs.LineSteps.{Compares, ComparesAnswer, DeniesLine, DeniesLines, FindsLine, FindsLines, HasSettled, SettlesLine};
 ghost use Rattle.book_audit.specs.declared.audit_fault.AuditFault.TheVariants.{Memory};
 ghost use Rattle.society_book.specs.BookRows.{book_of};
 ghost use Rattle.society_arrivals.specs.Going.{IsWholeIn};
@@ -16,7 +14,6 @@ ghost use Rattle.society_rows.specs.Between.{within};
 ghost use Rattle.society_rows.specs.Layout as layout;
 ghost use Rattle.society_rows.specs.Questions.{RowsAnswer};
 ghost use Rattle.society_rows.specs.Rows.{front_values};
-ghost use Rattle.sqlite_schema.specs.declared.schema.Table.{Table};
 ghost use Rattle.works_core.specs.Ends.{EndsAt};
 
 use crate::AuditFault;
@@ -67,8 +64,7 @@ fn rows_agree<S: Alter, R: Columns>(
     wanted: &mut Vec<R>,
 ) -> Result<(), AuditFault>
     ensures same_reference { tx.new.conn.ghost_name ≡ tx.old.conn.ghost_name }
-    ensures examined { (table : Table) (sender : List ℕ) (width : ℕ) → AsksFor (RowsAnswer question.entry) table sender width
-        → AllByRecursion IsExact (map R.values wanted.old.items) → within S.Store tx.old tx.new (Compares table sender (map R.values wanted.old.items)) result }
+    ensures examined { within S.Store tx.old tx.new (ComparesAnswer (RowsAnswer question.entry) (map R.values wanted.old.items)) result }
 {
     let mut rows = ask(tx, question)?;
     if are_alike(&mut rows, wanted)? {
@@ -142,8 +138,7 @@ fn outcomes_agree<S: Alter>(
     outcomes: &[Outcome<'_>],
 ) -> Result<(), AuditFault>
     ensures same_reference { tx.new.conn.ghost_name ≡ tx.old.conn.ghost_name }
-    ensures examined { within S.Store tx.old tx.new (Examines (IsNot (HasOutcomes front.now.sender.now (front_values front.now) outcomes.now))) result
-        (λ db _. HasOutcomes front.now.sender.now (front_values front.now) outcomes.now db) }
+    ensures examined { within S.Store tx.old tx.new (Examines (IsNot (HasSettled front.now outcomes.now))) result (λ db _. HasSettled front.now outcomes.now db) }
 {
     front_agrees(alloc, tx, front)?;
     verdicts_agree(alloc, tx, front.sender, outcomes)?;

@@ -2,7 +2,7 @@
 ghost use Rattle.std.specs.Prelude.{◌≡◌, ◌++◌, ℕ, IfErr, IfOk, OnOk};
 ghost use Rattle.std.specs.List.{AllByRecursion};
 ghost use Rattle.book_audit.specs.Examining.{Judges};
-ghost use Rattle.book_audit.specs.OrderParts.{AreCutsOf, AreMarksOf, AreOnce, ArePaidOf, ArePartsOf, IsKnownCut, IsKnownMark, IsKnownPaid, Numbers, cut_kept, item_at, items_kept, kind_kept, returns_kept};
+ghost use Rattle.book_audit.specs.OrderParts.{AreCutsOf, AreMarksOf, StandOnce, ArePaidOf, ArePartsOf, IsKnownCut, IsKnownMark, IsKnownPaid, Numbers, cut_kept, item_at, items_kept, kind_kept, returns_kept};
 ghost use Rattle.book_audit.specs.Pools.{ArePools};
 ghost use Rattle.society_core.specs.Book.{Book, IsSound};
 ghost use Rattle.society_rows.specs.Forms.{IsOfForms, pool_forms};
@@ -56,7 +56,7 @@ fn items_of<T>(lists: &BTreeMap<u32, Vec<T>>, pool: u32) -> &[T]
 // The numbers of pools; `Damaged` where a row cannot be read, or a number stands twice.
 fn numbers_of(alloc: Global, rows: &[Row]) -> Result<BTreeSet<u32>, AuditFault>
     ensures numbers { IfOk result (Numbers rows.now) }
-    ensures judged { IfErr result (Judges (AllByRecursion (IsOfForms pool_forms) rows.now → AreOnce rows.now → ⊥)) }
+    ensures judged { IfErr result (Judges (AllByRecursion (IsOfForms pool_forms) rows.now → StandOnce rows.now → ⊥)) }
 {
     let mut numbers = BTreeSet::new(alloc);
     for row in rows {
@@ -135,7 +135,7 @@ fn marked_in(
     rows: &[Row],
 ) -> Result<BTreeSet<u32>, AuditFault>
     ensures marks { IfOk result (AreMarksOf pools.now rows.now) }
-    ensures judged { IfErr result (Judges (AllByRecursion (IsKnownMark pools.now) rows.now → AreOnce rows.now → ⊥)) }
+    ensures judged { IfErr result (Judges (AllByRecursion (IsKnownMark pools.now) rows.now → StandOnce rows.now → ⊥)) }
 {
     let mut marked = BTreeSet::new(alloc);
     for row in rows {

@@ -1,7 +1,7 @@
 //! What closed pools pay, worked out anew and compared with the lines of credits and with the balances.
 ghost use Rattle.std.specs.Prelude.{◌≡◌, IfOk, OnOk};
 ghost use Rattle.book_audit.specs.Examining.{Examines, HoldsNot};
-ghost use Rattle.book_audit.specs.Paying.{AreNumbersOf, CannotPayAny, CompletesBook, DeniesPools, FindsPaid, FindsPools, LackPools, ListsAll, WantsAll, WantsOrder};
+ghost use Rattle.book_audit.specs.Paying.{AreNumbersOf, CannotPayAny, CompletesBook, DeniesPools, FindsPaid, FindsPaidAmong, FindsPools, LackPools, LackPoolsAmong, ListsForAll, WantsAll, WantsOrder};
 ghost use Rattle.society_closings.specs.Blamed.{HoldNoWorks, LackReturns};
 ghost use Rattle.society_closings.specs.CutWorks.{WantsMore};
 ghost use Rattle.society_closings.specs.Weighing.{AreWorksWeighed};
@@ -98,7 +98,7 @@ pub fn works_of<S: Alter>(
     closed: &[ClosedPool],
 ) -> Result<PoolWorks, AuditFault>
     ensures same_reference { tx.new.conn.ghost_name ≡ tx.old.conn.ghost_name }
-    ensures examined { within S.Store tx.old tx.new (Examines (CannotPayAny closed.now)) result (ListsAll office.now closed.now) }
+    ensures examined { within S.Store tx.old tx.new (Examines (CannotPayAny closed.now)) result (ListsForAll office.now closed.now) }
 {
     let wanted = wanted_by(alloc, tx, closed)?;
     let mut works = PoolWorks::of(alloc, wanted.works(alloc, tx)?);
@@ -116,8 +116,7 @@ fn totals_among<S: Alter>(
     works: &PoolWorks,
 ) -> Result<Totals, AuditFault>
     ensures same_reference { tx.new.conn.ghost_name ≡ tx.old.conn.ghost_name }
-    ensures examined { within S.Store tx.old tx.new (Examines (λ db. ListsAll office.now closed.now db works.now → LackPools office.now closed.now db)) result
-        (λ db totals. ListsAll office.now closed.now db works.now → FindsPaid office.now closed.now closed.now db totals) }
+    ensures examined { within S.Store tx.old tx.new (Examines (LackPoolsAmong office.now closed.now works.now)) result (FindsPaidAmong office.now closed.now works.now) }
 {
     let mut totals = Totals::new(alloc);
     for one in closed {

@@ -3,7 +3,7 @@ ghost use Rattle.std.specs.Prelude.{◌≡◌, ◌<◌, ◌^◌, ℕ, pos, Some,
 ghost use Rattle.sqlite_value.specs.Order.{column};
 ghost use Rattle.sqlite_value.specs.declared.value.Value.TheVariants.{Int};
 ghost use Rattle.book_audit.specs.Examining.{Examines};
-ghost use Rattle.book_audit.specs.Standing.{HoldsNoLines, IsKnown, IsReach, KnowsReach, Learns, OfLines, TellsCut};
+ghost use Rattle.book_audit.specs.Standing.{HoldsNoLines, IsReachKnown, IsReach, KnowsReach, LearnsReach, OfLines, TellsCut};
 ghost use Rattle.society_core.specs.Book.{front, is_applied};
 ghost use Rattle.society_book.specs.EndLists.{ReadsEnds};
 ghost use Rattle.society_rows.specs.Between.{within};
@@ -100,7 +100,7 @@ impl Reached {
         sender: &SenderKey,
     ) -> Result<(), AuditFault>
         ensures same_reference { tx.new.conn.ghost_name ≡ tx.old.conn.ghost_name }
-        ensures examined { within S.Store tx.old tx.new (Examines HoldsNoLines) result (λ db _. Learns sender.now self.old self.new db) }
+        ensures examined { within S.Store tx.old tx.new (Examines HoldsNoLines) result (λ db _. LearnsReach sender.now self.old self.new db) }
     {
         if self.by_sender.contains_key(sender) {
             return Ok(());
@@ -112,7 +112,7 @@ impl Reached {
 
     // Whether a number is in its sender's line, where it is known how far that came.
     fn is_in_line(&self, key: &TransmissionKey) -> bool
-        ensures { (db : Trees) → KnowsReach db self.now → IsKnown key.now.sender self.now → OfLines (λ book. result ≡ is_applied book key.now) db }
+        ensures { (db : Trees) → KnowsReach db self.now → IsReachKnown key.now.sender self.now → OfLines (λ book. result ≡ is_applied book key.now) db }
     {
         match self.by_sender.get(&key.sender) {
             Some(reach) => reach.ends.is_in_line(reach.front, key.number),

@@ -5,7 +5,7 @@ ghost use Rattle.society_book.specs.BookRows.{return_key_of};
 ghost use Rattle.society_rows.specs.Between.{within};
 ghost use Rattle.work_ids.specs.Blanks.{fill};
 ghost use Rattle.book_audit.specs.Entries.{is_right_return};
-ghost use Rattle.book_audit.specs.Judging.{AreReported, is_one_right, is_reported_at, is_reported_key, is_spelled};
+ghost use Rattle.book_audit.specs.Judging.{AreReported, is_one_right, is_reported_at, is_reported_key, is_reporter_spelled};
 
 use crate::AuditFault;
 use crate::reading::ask;
@@ -18,7 +18,7 @@ use work_ids::{Reporter, ReturnNumber};
 
 // The reporter that bytes spell, where they are written without the blanks that fill it.
 fn reporter_in(bytes: &[u8]) -> Option<Reporter>
-    ensures { result ≡ (if is_spelled bytes.now then Some (fill 20 bytes.now) else None) }
+    ensures { result ≡ (if is_reporter_spelled bytes.now then Some (fill 20 bytes.now) else None) }
 {
     match Reporter::from_bytes(bytes) {
         Ok(reporter) if reporter.as_bytes() == bytes => Some(reporter),

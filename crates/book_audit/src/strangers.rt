@@ -2,12 +2,12 @@
 ghost use Rattle.std.specs.Prelude.{◌≡◌, ◌↔◌, IfOk, IsTrue, true};
 ghost use Rattle.std.specs.BTreeSet.{IsFromIterResult};
 ghost use Rattle.std.specs.List.{AllByRecursion};
-ghost use Rattle.book_audit.specs.Examining.{Examines};
+ghost use Rattle.book_audit.specs.Examining.{Examines, IsNot};
 ghost use Rattle.society_core.specs.Keys.{bytes_cmp};
 ghost use Rattle.society_rows.specs.Between.{within};
 ghost use Rattle.society_rows.specs.FirstColumns.{derived_table};
 ghost use Rattle.book_audit.specs.Auditing.{AreLinesOf, is_of_one};
-ghost use Rattle.book_audit.specs.LineSteps.{AreAllOfThese, AreOfThese, DeniesLines, IsNot};
+ghost use Rattle.book_audit.specs.LineSteps.{AreAllOfThese, AreOfThese, DeniesLines};
 ghost use Rattle.share_rules.specs.declared.office.Office.{Office};
 
 use crate::AuditFault;

@@ -1,6 +1,6 @@
 //! What accounts have come to by credits.
 ghost use Rattle.std.specs.Prelude.{◌++◌, [], List, IfErr, OnOk};
-ghost use Rattle.book_audit.specs.Balances.{AddsUnits, ComesTo};
+ghost use Rattle.book_audit.specs.Balances.{AddsToAccount, AreTotalsOf};
 ghost use Rattle.book_audit.specs.Examining.{Judges};
 ghost use Rattle.pool_split.specs.declared.claim.Credit.{Credit as CreditValue};
 
@@ -24,7 +24,7 @@ fn add_units(
     account: Vec<u8>,
     more: u64,
 ) -> Result<(), AuditFault>
-    ensures added { OnOk result (AddsUnits account.items more units.old units.new) }
+    ensures added { OnOk result (AddsToAccount account.items more units.old units.new) }
     ensures judged { IfErr result (Judges ⊥) }
 {
     let had = units.get(account.as_slice()).copied().unwrap_or(0);
@@ -39,7 +39,7 @@ fn add_units(
 impl Totals {
     /// No credit.
     pub fn new(alloc: Global) -> Totals
-        ensures { ComesTo result [] }
+        ensures { AreTotalsOf result [] }
     {
         Totals {
             alloc,
@@ -49,7 +49,7 @@ impl Totals {
 
     /// Adds some credits; `Memory` where memory was refused, or an account's units do not fit, which those of no book reach.
     pub fn add(&mut self, credits: &[Credit]) -> Result<(), AuditFault>
-        ensures added { OnOk result ((done : List CreditValue) → ComesTo self.old done → ComesTo self.new (done ++ credits.now)) }
+        ensures added { OnOk result ((done : List CreditValue) → AreTotalsOf self.old done → AreTotalsOf self.new (done ++ credits.now)) }
         ensures judged { IfErr result (Judges ⊥) }
     {
         for credit in credits {

@@ -1,17 +1,26 @@
 -- What is written of senders' lines.
-use Rattle.std.specs.Prelude.{ℕ, pos, List, [], ◌∷◌}
+use Rattle.std.specs.Prelude.{ℕ, pos, List, [], ◌∷◌, map}
 use Rattle.std.specs.List.{AllByRecursion}
 use Rattle.share_rules.specs.declared.office.Office.{Office}
 use Rattle.sqlite_trees.specs.Tree.{Trees}
 use Rattle.sqlite_value.specs.declared.value.Value.TheVariants.{Int, Text}
 use Rattle.society_core.specs.Book.{AreOrderly, Book, front}
 use Rattle.society_rows.specs.Layout as layout
+use Rattle.society_rows.specs.Rows.{front_values, recording_values, verdict_values, version_values}
 use Rattle.society_rows.specs.Stored.{AreNumbered}
+use Rattle.society_rows.specs.declared.fronts.FrontRow.{FrontRow}
+use Rattle.society_rows.specs.declared.recordings.RecordingRow.{RecordingRow}
+use Rattle.society_rows.specs.declared.verdicts.VerdictRow.{VerdictRow}
+use Rattle.society_rows.specs.declared.versions.VersionRow.{VersionRow}
 use Rattle.society_book.specs.DerivedRows.{tells_recordings, tells_verdict, tells_version, told_to_front, works_to}
 use Rattle.society_arrivals.specs.LineTables.{KeepsUnlined, PutsLine}
 use Rattle.society_book.specs.Sources.{KeepsSent}
 use Rattle.book_audit.specs.Auditing.{AreLinesOf, AreSenders, HasLine}
 use Rattle.book_derivation.specs.Deriving.{HasNoLines}
+
+-- this front is put, and these verdicts, versions and recordings are added
+abbrev pub PutsRows : FrontRow → List VerdictRow → List VersionRow → List RecordingRow → Trees → Trees → Type 0
+PutsRows front verdicts versions recordings = PutsLine (front_values front) (map verdict_values verdicts) (map version_values versions) (map recording_values recordings)
 
 -- the front of a sender is put, and what is derived of its line is added
 abbrev pub PutsOwnLine : Office → Book → List ℕ → Trees → Trees → Type 0

@@ -6,7 +6,6 @@ use Rattle.share_rules.specs.declared.office.Office.{Office}
 use Rattle.sqlite_trees.specs.Tree.{Trees}
 use Rattle.sqlite_value.specs.Order.{Row}
 use Rattle.society_core.specs.Book.{Book}
-use Rattle.society_core.specs.Candidates.{CanBePaid}
 use Rattle.society_core.specs.Orders.{Order}
 use Rattle.society_core.specs.Pools.{credits_of}
 use Rattle.society_rows.specs.Layout as layout
@@ -16,10 +15,10 @@ use Rattle.society_book.specs.Kept.{HoldsOwnBook}
 use Rattle.society_book.specs.Sources.{DerivesWorks, HoldsWorks}
 use Rattle.society_closings.specs.Closings.{PaysAmong}
 use Rattle.society_closings.specs.declared.pool_works.PoolWorks.{PoolWorks}
-use Rattle.book_audit.specs.Balances.{ComesTo, HasBalances, balance_row}
+use Rattle.book_audit.specs.Balances.{AreTotalsOf, HasBalances, balance_row}
 use Rattle.book_audit.specs.Credits.{credit_lines}
 use Rattle.book_audit.specs.OwnRows.{HoldsReached}
-use Rattle.book_audit.specs.Paying.{AreReachedIn, CannotPayAll, HoldsUnpaid, ListsAll, credits_by}
+use Rattle.book_audit.specs.Paying.{AreReachedIn, CannotPayAll, HoldsUnpaid, ListsForAll, credits_by}
 use Rattle.book_audit.specs.declared.pool_orders.ClosedPool.{ClosedPool}
 use Rattle.book_audit.specs.declared.totals.Totals.{Totals}
 use Rattle.book_derivation.specs.Deriving.{HasNoMoney}
@@ -46,15 +45,15 @@ lines_by office book closed = flat_map (λ (c : ClosedPool). credit_lines c.pool
 pub record WritesCredits (office : Office) (closed : List ClosedPool) (old new : Trees) (totals : Totals) : Type 0 where
   pub others : KeepsOthers layout.credits_table old new
   pub lines : (book : Book) → HoldsWorks office book old → AreReachedIn book closed → IsPermutation (lines_by office book closed ++ rows_in layout.credits_table old) (rows_in layout.credits_table new)
-  pub comes : (book : Book) → HoldsWorks office book old → AreReachedIn book closed → ComesTo totals (credits_by office book closed)
+  pub comes : (book : Book) → HoldsWorks office book old → AreReachedIn book closed → AreTotalsOf totals (credits_by office book closed)
 
 -- so where the works are listed that each of them looks for
 abbrev pub WritesListed : Office → List ClosedPool → PoolWorks → Trees → Trees → Totals → Type 0
-WritesListed office closed works old new totals = ListsAll office closed old works → WritesCredits office closed old new totals
+WritesListed office closed works old new totals = ListsForAll office closed old works → WritesCredits office closed old new totals
 
 -- then the tables have the works of no book out of which each of these pools can be paid
 abbrev pub CannotPayListed : Office → List ClosedPool → PoolWorks → Trees → Type 0
-CannotPayListed office closed works db = ListsAll office closed db works → CannotPayAll office closed db
+CannotPayListed office closed works db = ListsForAll office closed db works → CannotPayAll office closed db
 
 -- the balance of an account that has come to these units is added, and nothing else
 pub record AddsBalance (account : List ℕ) (units : ℕ) (old new : Trees) : Type 0 where
@@ -65,7 +64,7 @@ pub record AddsBalance (account : List ℕ) (units : ℕ) (old new : Trees) : Ty
 -- what accounts have come to is written to a table that had nothing
 pub record WritesBalances (totals : Totals) (old new : Trees) : Type 0 where
   pub others : KeepsOthers layout.balances old new
-  pub has : (credits : List Credit) → ComesTo totals credits → old layout.balances.tree ≡ [] → HasBalances credits new
+  pub has : (credits : List Credit) → AreTotalsOf totals credits → old layout.balances.tree ≡ [] → HasBalances credits new
   pub numbered : old layout.balances.tree ≡ [] → AreNumbered layout.balances new
 
 -- every table but those of what pools pay is as it was

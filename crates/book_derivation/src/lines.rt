@@ -1,13 +1,12 @@
 //! What is derived of senders' lines, worked out of what they sent and written.
-ghost use Rattle.std.specs.Prelude.{◌≡◌, map};
+ghost use Rattle.std.specs.Prelude.{◌≡◌};
 ghost use Rattle.book_audit.specs.Examining.{Never};
 ghost use Rattle.book_derivation.specs.Deriving.{Derives};
-ghost use Rattle.book_derivation.specs.Lines.{WritesLine, WritesLines};
+ghost use Rattle.book_derivation.specs.Lines.{PutsRows, WritesLine, WritesLines};
 ghost use Rattle.society_arrivals.specs.Arriving.{PutsOutcomes};
 ghost use Rattle.society_book.specs.RightRows.{KeepsUnsound};
-ghost use Rattle.society_arrivals.specs.LineTables.{PutsLine};
 ghost use Rattle.society_rows.specs.Between.{within};
-ghost use Rattle.society_rows.specs.Rows.{front_values, recording_values, verdict_values, version_values};
+ghost use Rattle.society_rows.specs.Rows.{front_values};
 
 use crate::writing::wrote;
 use book_audit::{AuditFault, run_of, settled_line, worked_out};
@@ -27,8 +26,7 @@ fn write_rows<S: Alter>(
     recordings: &[RecordingRow<'_>],
 ) -> Result<(), AuditFault>
     ensures same_reference { tx.new.conn.ghost_name ≡ tx.old.conn.ghost_name }
-    ensures derives { within S.Store tx.old tx.new (Derives Never) result
-        (λ before after _. PutsLine (front_values front.now) (map verdict_values verdicts.now) (map version_values versions.now) (map recording_values recordings.now) before after) }
+    ensures derives { within S.Store tx.old tx.new (Derives Never) result (λ before after _. PutsRows front.now verdicts.now versions.now recordings.now before after) }
 {
     wrote(put_front(tx, front))?;
     wrote(add_all(tx, verdicts))?;

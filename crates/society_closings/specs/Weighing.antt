@@ -62,6 +62,12 @@ abbrev pub AreLent : Kind → Office → (List ℕ → Bool) → Trees → Optio
 AreLent kind office of_these db None = Unit {0}
 AreLent kind office of_these db (Some weighed) = AreWeighed kind office of_these db weighed
 
+-- these are the versions of a transmission, weighed, wherever what is lent is so
+abbrev pub LendsVersions : Option WeighedWorks → TransmissionKey → List WeighedVersion → Type 0
+LendsVersions weighed key versions =
+    (kind : Kind) (office : Office) (of_these : List ℕ → Bool) (db : Trees) (book : Book) → AreLent kind office of_these db weighed → HoldsWorks office book db
+    → WeighsMore kind office of_these key.sender 0 (transactions_sent book key.sender key.number) [] versions
+
 -- those of a right
 abbrev pub weighed_of : PoolWorks → Kind → WeighedWorks
 weighed_of works Performing = works.performing

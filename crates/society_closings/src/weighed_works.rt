@@ -1,18 +1,15 @@
 //! The transmissions whose works' versions are weighed for many pools, each read once.
-ghost use Rattle.std.specs.Prelude.{◌≡◌, List, ℕ, IfOk, IfSome, OnOk, bytes_eq, option_map, true, [], Bool};
+ghost use Rattle.std.specs.Prelude.{◌≡◌, List, ℕ, IfOk, IfSome, OnOk, bytes_eq, option_map, true, Bool};
 ghost use Rattle.std.specs.BTreeSet.{contains};
 ghost use Rattle.std.specs.List.{list_any};
 ghost use Rattle.share_rules.specs.declared.kind.Kind.{Kind as KindValue};
 ghost use Rattle.share_rules.specs.declared.office.Office.{Office as OfficeValue};
 ghost use Rattle.sqlite_trees.specs.Tree.{Trees};
-ghost use Rattle.society_core.specs.Book.{Book};
-ghost use Rattle.society_core.specs.Candidates.{transactions_sent};
 ghost use Rattle.society_core.specs.Keys.{bytes_cmp};
 ghost use Rattle.society_core.specs.Points.{is_tallied};
-ghost use Rattle.society_book.specs.Sources.{HoldsWorks};
 ghost use Rattle.society_book.specs.Steps.{Looks};
 ghost use Rattle.society_closings.specs.Blamed.{HoldNoWorks};
-ghost use Rattle.society_closings.specs.Weighing.{AreLent, AreWeighed, KeepsShown, StaysWeighed, WeighsMore};
+ghost use Rattle.society_closings.specs.Weighing.{AreWeighed, KeepsShown, LendsVersions, StaysWeighed};
 ghost use Rattle.society_rows.specs.Between.{within};
 ghost use Rattle.society_rows.specs.Effects.{Errs};
 
@@ -170,8 +167,7 @@ pub(crate) fn versions_lent<'a>(
     weighed: Option<&'a WeighedWorks>,
     key: &TransmissionKey,
 ) -> Option<&'a [WeighedVersion]>
-    ensures { (kind : KindValue) (office : OfficeValue) (of_these : List ℕ → Bool) (db : Trees) (book : Book) → AreLent kind office of_these db (option_map (λ w. w.now) weighed.entry) → HoldsWorks office book db
-        → IfSome result (λ versions. WeighsMore kind office of_these key.now.sender 0 (transactions_sent book key.now.sender key.now.number) [] versions.now) }
+    ensures { IfSome result (λ versions. LendsVersions (option_map (λ w. w.now) weighed.entry) key.now versions.now) }
 {
     match weighed {
         None => None,

@@ -1,12 +1,12 @@
 -- Readings of several queries in a transaction, and rows that are gone over one at a time.
-use Rattle.std.specs.Prelude.{ℕ, suc, pos, ◌+◌, ◌^◌, ◌≤◌, ◌⊎◌, ◌≡◌, List, [], ◌∷◌, ◌++◌, length, fold, Result, IsTrue, IfOk, OnOk, OnErr}
+use Rattle.std.specs.Prelude.{ℕ, suc, pos, ◌+◌, ◌^◌, ◌≤◌, ◌⊎◌, ◌≡◌, List, [], ◌∷◌, ◌++◌, length, fold, Result, IsTrue, IfErr, IfOk, OnOk, OnErr}
 use Rattle.sqlite_value.specs.declared.value.Value.TheVariants.{Int, Text}
 use Rattle.sqlite_value.specs.Order.{Row}
 use Rattle.sqlite_trees.specs.Tree.{Trees}
 use Rattle.sqlite.specs.State.{HasCleanDisk, IsRolledBack, IsUnchanged, KeepsCommit, State, Survives}
 use Rattle.society_rows.specs.declared.fault.RowFault.{RowFault}
 use Rattle.society_rows.specs.declared.fault.RowFault.TheVariants.{Unread}
-use Rattle.society_rows.specs.Effects.{IsFailureOf}
+use Rattle.society_rows.specs.Effects.{ErrsByMedium, IsFailureOf}
 use Rattle.society_rows.specs.Layout.{transmissions}
 use Rattle.society_rows.specs.Reads.{Lists, has_key}
 use Rattle.society_rows.specs.Stored.{HasLayout}
@@ -65,6 +65,11 @@ pub record HasNoGap (sender : List ℕ) (number : ℕ) (db : Trees) : Type 0 whe
 -- the run has no gap at which each of its rows stands alone
 abbrev pub IsNoRun : State → State → List ℕ → ℕ → Type 0
 IsNoRun old new sender number = HasCleanDisk new → HasLayout old.now → AreDoubled sender number old.now.trees ⊎ HasNoGap sender number old.now.trees
+
+-- an error says want of memory, or where the reading may fail, or that a row was refused or that there is no run
+abbrev pub ErrsByRun : {X F : Type 0} → (F → Row → F) → (F → Row → RowFault → Type 0) → List ℕ → ℕ → F → State → State → Result X RowFault → Type 0
+ErrsByRun step refusal sender number begun old new result =
+    ErrsByMedium old new result ⊎ IfErr result (λ fault. RefusesRow step refusal (AreFirstOfRun old new sender number) begun fault ⊎ ((fault ≡ Unread) × IsNoRun old new sender number))
 
 -- why a run was not gone over up to its gap: a failure, a row was refused, several stand under a number, or no number is free
 pub record StopsRun {F : Type 0} (step : F → Row → F) (refusal : F → Row → RowFault → Type 0) (old new : State) (sender : List ℕ) (number : ℕ) (begun : F) (fault : RowFault) : Type 0 where

@@ -13,26 +13,26 @@ pub record TableRows : Type 0 where
   pub rows : List Row
 
 -- the rows that are added
-abbrev pub added : NewRows → TableRows
-added (new.Office row) = record { table = name.Office; rows = office_values row.now ∷ [] }
-added (new.Transmission row) = record { table = name.Transmissions; rows = transmission_values row.now ∷ [] }
-added (new.Return row) = record { table = name.Returns; rows = return_values row.now ∷ [] }
-added (new.Pool row) = record { table = name.Pools; rows = pool_values row.now ∷ [] }
-added (new.PoolCut row) = record { table = name.PoolCuts; rows = pool_cut_values row.now ∷ [] }
-added (new.PoolCuts one two) = record { table = name.PoolCuts; rows = pool_cut_values one.now ∷ pool_cut_values two.now ∷ [] }
-added (new.PoolReturn row) = record { table = name.PoolReturns; rows = pool_return_values row.now ∷ [] }
-added (new.PoolReturns one two) = record { table = name.PoolReturns; rows = pool_return_values one.now ∷ pool_return_values two.now ∷ [] }
-added (new.Verdict row) = record { table = name.Verdicts; rows = verdict_values row.now ∷ [] }
-added (new.Verdicts one two) = record { table = name.Verdicts; rows = verdict_values one.now ∷ verdict_values two.now ∷ [] }
-added (new.Version row) = record { table = name.Versions; rows = version_values row.now ∷ [] }
-added (new.Versions one two) = record { table = name.Versions; rows = version_values one.now ∷ version_values two.now ∷ [] }
-added (new.Recording row) = record { table = name.Recordings; rows = recording_values row.now ∷ [] }
-added (new.Recordings one two) = record { table = name.Recordings; rows = recording_values one.now ∷ recording_values two.now ∷ [] }
-added (new.Credit row) = record { table = name.Credits; rows = credit_values row.now ∷ [] }
-added (new.Credits one two) = record { table = name.Credits; rows = credit_values one.now ∷ credit_values two.now ∷ [] }
-added (new.Balance row) = record { table = name.Balances; rows = balance_values row.now ∷ [] }
-added (new.SegmentEnd row) = record { table = name.SegmentEnds; rows = segment_end_values row.now ∷ [] }
-added (new.MechanicalPool row) = record { table = name.MechanicalPools; rows = mechanical_pool_values row.now ∷ [] }
+abbrev pub rows_added : NewRows → TableRows
+rows_added (new.Office row) = record { table = name.Office; rows = office_values row.now ∷ [] }
+rows_added (new.Transmission row) = record { table = name.Transmissions; rows = transmission_values row.now ∷ [] }
+rows_added (new.Return row) = record { table = name.Returns; rows = return_values row.now ∷ [] }
+rows_added (new.Pool row) = record { table = name.Pools; rows = pool_values row.now ∷ [] }
+rows_added (new.PoolCut row) = record { table = name.PoolCuts; rows = pool_cut_values row.now ∷ [] }
+rows_added (new.PoolCuts one two) = record { table = name.PoolCuts; rows = pool_cut_values one.now ∷ pool_cut_values two.now ∷ [] }
+rows_added (new.PoolReturn row) = record { table = name.PoolReturns; rows = pool_return_values row.now ∷ [] }
+rows_added (new.PoolReturns one two) = record { table = name.PoolReturns; rows = pool_return_values one.now ∷ pool_return_values two.now ∷ [] }
+rows_added (new.Verdict row) = record { table = name.Verdicts; rows = verdict_values row.now ∷ [] }
+rows_added (new.Verdicts one two) = record { table = name.Verdicts; rows = verdict_values one.now ∷ verdict_values two.now ∷ [] }
+rows_added (new.Version row) = record { table = name.Versions; rows = version_values row.now ∷ [] }
+rows_added (new.Versions one two) = record { table = name.Versions; rows = version_values one.now ∷ version_values two.now ∷ [] }
+rows_added (new.Recording row) = record { table = name.Recordings; rows = recording_values row.now ∷ [] }
+rows_added (new.Recordings one two) = record { table = name.Recordings; rows = recording_values one.now ∷ recording_values two.now ∷ [] }
+rows_added (new.Credit row) = record { table = name.Credits; rows = credit_values row.now ∷ [] }
+rows_added (new.Credits one two) = record { table = name.Credits; rows = credit_values one.now ∷ credit_values two.now ∷ [] }
+rows_added (new.Balance row) = record { table = name.Balances; rows = balance_values row.now ∷ [] }
+rows_added (new.SegmentEnd row) = record { table = name.SegmentEnds; rows = segment_end_values row.now ∷ [] }
+rows_added (new.MechanicalPool row) = record { table = name.MechanicalPools; rows = mechanical_pool_values row.now ∷ [] }
 
 -- the statement that adds them
 abbrev pub insert_text : NewRows → List ℕ

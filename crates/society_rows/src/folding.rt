@@ -1,8 +1,7 @@
 //! Rows that are gone over one at a time, so that no answer is kept.
-ghost use Rattle.std.specs.Prelude.{◌≡◌, ◌⊎◌, IfErr, OnOk};
+ghost use Rattle.std.specs.Prelude.{◌≡◌, IfErr, OnOk};
 ghost use Rattle.sqlite_value.specs.Order.{Row as SqlRow};
-ghost use Rattle.society_rows.specs.Effects.{ErrsByMedium};
-ghost use Rattle.society_rows.specs.Folds.{AreFirstOfRun, HasTaken, IsNoRun, IsRun, ReadsInside, RefusesRow, StopsRun};
+ghost use Rattle.society_rows.specs.Folds.{ErrsByRun, HasTaken, IsRun, ReadsInside, StopsRun};
 ghost use Rattle.society_rows.specs.declared.fault.RowFault.TheVariants.{Unread};
 ghost use Rattle.society_rows.specs.Between.{within};
 
@@ -38,8 +37,7 @@ pub fn fold_run<S: Alter, F: RowFold>(
         (λ db _. HasTaken F.step (IsRun sender.now first db) into.old into.new) }
     ensures err { IfErr result
         (within S.Store tx.old tx.new (StopsRun F.step F.refusal) sender.now first into.old) }
-    ensures medium { within S.Store tx.old tx.new (λ old new. ErrsByMedium old new result ⊎ IfErr result (λ fault.
-        RefusesRow F.step F.refusal (AreFirstOfRun old new sender.now first) into.old fault ⊎ ((fault ≡ Unread) × IsNoRun old new sender.now first))) }
+    ensures medium { within S.Store tx.old tx.new (ErrsByRun F.step F.refusal sender.now first into.old) result }
 {
     for number in first..=u32::MAX {
         let rows = answer(tx, Question::Transmission(sender, number))?;

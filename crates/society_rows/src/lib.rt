@@ -1,4 +1,4 @@
-//! The tables of the office in SQLite: typed rows, and one call for each statement over them.
+//! The tables of the office in SQLite: typed rows, what is asked of them, and what is written.
 //!
 //! The rows of a table stand for a set, seen as a list up to its order. But for `create`, each call runs within a
 //! transaction of the caller's and commits nothing. Over layout 3, and where the disk told the truth, a fault is want

@@ -2,7 +2,7 @@
 ghost use Rattle.std.specs.Prelude.{◌≡◌};
 ghost use Rattle.sqlite.specs.Values.{bound};
 ghost use Rattle.society_rows.specs.Effects.{BlamesMedium, IsAllOrNothing, OnlyFails, Writes};
-ghost use Rattle.society_rows.specs.NewRows.{added, insert_text, one_after_another};
+ghost use Rattle.society_rows.specs.NewRows.{rows_added, insert_text, one_after_another};
 ghost use Rattle.society_rows.specs.Stored.{Adds};
 ghost use Rattle.society_rows.specs.TableNames.{table_called};
 ghost use Rattle.society_rows.specs.Between.{within};
@@ -100,10 +100,10 @@ fn add_by<S: Alter>(
     rows: NewRows<'_>,
     values: &[ValueRef<'_>],
 ) -> Result<(), RowFault>
-    requires { bound values.now ≡ one_after_another (added rows).rows }
+    requires { bound values.now ≡ one_after_another (rows_added rows).rows }
     ensures same_reference { tx.new.conn.ghost_name ≡ tx.old.conn.ghost_name }
     ensures written { within S.Store tx.old tx.new Writes result
-        (Adds (table_called (added rows.entry).table) (added rows.entry).rows) }
+        (Adds (table_called (rows_added rows.entry).table) (rows_added rows.entry).rows) }
     ensures whole { within S.Store tx.old tx.new IsAllOrNothing result }
     ensures err { within S.Store tx.old tx.new OnlyFails result }
     ensures blamed { within S.Store tx.old tx.new BlamesMedium result }
@@ -116,7 +116,7 @@ fn add_by<S: Alter>(
 pub fn add<S: Alter>(tx: &mut Transaction<'_, S>, rows: NewRows<'_>) -> Result<(), RowFault>
     ensures same_reference { tx.new.conn.ghost_name ≡ tx.old.conn.ghost_name }
     ensures written { within S.Store tx.old tx.new Writes result
-        (Adds (table_called (added rows.entry).table) (added rows.entry).rows) }
+        (Adds (table_called (rows_added rows.entry).table) (rows_added rows.entry).rows) }
     ensures whole { within S.Store tx.old tx.new IsAllOrNothing result }
     ensures err { within S.Store tx.old tx.new OnlyFails result }
     ensures blamed { within S.Store tx.old tx.new BlamesMedium result }

@@ -2,7 +2,7 @@
 ghost use Rattle.std.specs.Prelude.{◌≡◌, ◌≤◌, map, take, [], ◌∷◌, length};
 ghost use Rattle.society_rows.specs.Effects.{BlamesMedium, FailsWhole, LeavesFirst, OnlyFails, OnlyFailsInside, Writes};
 ghost use Rattle.society_rows.specs.Stored.{Adds, HasLayout};
-ghost use Rattle.society_rows.specs.NewRows.{added};
+ghost use Rattle.society_rows.specs.NewRows.{rows_added};
 ghost use Rattle.society_rows.specs.TableNames.{table_called};
 ghost use Rattle.society_rows.specs.Between.{within};
 
@@ -23,13 +23,13 @@ pub trait PairedRow {
 
     /// The row, as what one statement adds.
     fn one<'b>(row: &'b Self) -> NewRows<'b>
-        ensures table { table_called (added result).table ≡ table }
-        ensures rows { (added result).rows ≡ values row.now ∷ [] };
+        ensures table { table_called (rows_added result).table ≡ table }
+        ensures rows { (rows_added result).rows ≡ values row.now ∷ [] };
 
     /// Two rows, as what one statement adds.
     fn two<'b>(one: &'b Self, two: &'b Self) -> NewRows<'b>
-        ensures table { table_called (added result).table ≡ table }
-        ensures rows { (added result).rows ≡ values one.now ∷ values two.now ∷ [] };
+        ensures table { table_called (rows_added result).table ≡ table }
+        ensures rows { (rows_added result).rows ≡ values one.now ∷ values two.now ∷ [] };
 }
 
 // Adds up to two rows, all or none.

@@ -1,4 +1,5 @@
 -- A book that tables hold pays what their rows say.
+use Rattle.society_closings.specs.Closings.{row_of_account}
 use Rattle.std.proofs.Common.{◌≡◌, ◌∙◌, ℕ, List, [], ◌∷◌, filter, subst, sym, bytes_eq, IsPermutation}
 use Rattle.std.specs.BTreeSet.{BTreeSet}
 use Rattle.std.specs.FinMap as finite
@@ -17,8 +18,8 @@ use Rattle.society_book.specs.Sources.{HoldsWorks}
 use Rattle.society_closings.proofs.lemmas.money.BalanceAdds.{same_balance}
 use Rattle.society_closings.proofs.lemmas.money.Payments.{cut_reached}
 use Rattle.work_ids.specs.Account.{account_text}
-use Rattle.book_audit.specs.Balances.{HasBalances, row_of_account}
-use Rattle.book_audit.specs.Credits.{AreCreditsOf}
+use Rattle.book_audit.specs.Balances.{HasBalances}
+use Rattle.book_audit.specs.Credits.{AreCreditsOfPools}
 use Rattle.book_audit.specs.Paying.{AreApart, AreClosedIn, AreNumbersOf, AreReachedIn, CannotPayAny, credits_by}
 use Rattle.book_audit.proofs.lemmas.credits.Payable.{payable}
 use Rattle.society_closings.proofs.lemmas.cuts.WorksHeld.{works_of}
@@ -55,7 +56,7 @@ module _ (o : Office) (b : Book) (db : Trees) (holds : HoldsBook o b db) (closed
   all_reached (c ∷ some) there = (cut_reached b c.pool c.order (holds.sound.pools c.pool c.order there.0), all_reached some there.1)
 
   -- each line of credits is of one of its pools
-  pub credits_own : (numbers : BTreeSet ℕ) → AreNumbersOf closed numbers → AreCreditsOf numbers db
+  pub credits_own : (numbers : BTreeSet ℕ) → AreNumbersOf closed numbers → AreCreditsOfPools numbers db
   credits_own numbers these = own_credits o b db holds numbers (λ q order is. these q ∙ named_where q order closed (sym (got closed q) ∙ sym (whole q) ∙ is))
 
   -- and the balances are what their credits come to

@@ -1,4 +1,5 @@
 -- What tables have of senders' lines while these are written, one after another.
+use Rattle.book_audit.specs.Entries.{is_text}
 use Rattle.std.proofs.Common.{◌≡◌, ◌∙◌, ◌++◌, ◌||◌, ℕ, pos, Bool, true, false, cond, List, [], ◌∷◌, refl, ap, ap₂, sym, subst, arith, bytes_eq, filter, map, IsPermutation}
 use Rattle.std.specs.List.{AllByRecursion}
 use Rattle.std.proofs.Math.Bool.{or-false}
@@ -28,7 +29,7 @@ use Rattle.society_arrivals.proofs.lemmas.RunWrites.{KeptOfLines}
 use Rattle.society_book.proofs.lemmas.rows_alike.NamedRows.{HasName}
 use Rattle.society_book.proofs.lemmas.rows_alike.PutRows.{others_left}
 use Rattle.society_book.proofs.lemmas.rows_alike.RowLemmas.{all_rows, more_rows}
-use Rattle.book_audit.specs.Auditing.{AreNamed, AreSenders, HasLine, HasRowsOf, is_text}
+use Rattle.book_audit.specs.Auditing.{AreNamed, AreSenders, HasLine, HasRowsOf}
 use Rattle.book_audit.proofs.lemmas.lines.OwnLines.{Names, recordings_named, rows_of, verdicts_named, versions_named}
 use Rattle.book_derivation.specs.Deriving.{HasNoLines}
 use Rattle.book_derivation.specs.Lines.{HoldsLinesOf, PutsOwnLine, WritesLine, WritesLines}

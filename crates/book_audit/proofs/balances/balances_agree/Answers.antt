@@ -5,7 +5,7 @@ use Rattle.society_rows.specs.declared.tables.TableName.TheVariants.{Balances}
 use Rattle.pool_split.specs.declared.claim.Credit.{Credit}
 use Rattle.book_audit.specs.Examining.{Never}
 use Rattle.book_audit.proofs.lemmas.Examinations.{examines_as}
-use Rattle.book_audit.specs.Balances.{ComesTo, HasBalances}
+use Rattle.book_audit.specs.Balances.{AreTotalsOf, HasBalances}
 use Rattle.book_audit.proofs.lemmas.balances.Agreement.{agreed, judged}
 use Rattle.book_audit.proofs.balances.balances_agree.Goals as goal
 
@@ -16,7 +16,7 @@ returns-clause-examined g c =
     let totals = c.args.totals in
     let db = old.now.trees in
     let rows = c.in_ok-rows.rows.items in
-    examines_as Never (λ db. (credits : List Credit) → ComesTo totals credits → HasBalances credits db → ⊥) old new c.in_ok-rows.rows c.rows_agree.result (λ db rows. ListsAll Balances db rows.items)
-    (λ db _. (credits : List Credit) → ComesTo totals credits → HasBalances credits db) c.in_ok-rows.ensures.examined
+    examines_as Never (λ db. (credits : List Credit) → AreTotalsOf totals credits → HasBalances credits db → ⊥) old new c.in_ok-rows.rows c.rows_agree.result (λ db rows. ListsAll Balances db rows.items)
+    (λ db _. (credits : List Credit) → AreTotalsOf totals credits → HasBalances credits db) c.in_ok-rows.ensures.examined
     (λ lists. agreed totals db c.as_slice.result.now (subst (ListsAll Balances db) (sym c.as_slice.ensures.value) lists) c.rows_agree.result c.rows_agree.ensures.agree)
     (λ lists. judged totals db c.as_slice.result.now (subst (ListsAll Balances db) (sym c.as_slice.ensures.value) lists) c.rows_agree.result c.rows_agree.ensures.judged)

@@ -6,10 +6,10 @@ use Rattle.sqlite.specs.Held.{state}
 use Rattle.sqlite_value.specs.Order.{Row}
 use Rattle.society_rows.specs.FirstColumns.{ListsFirstColumn}
 use Rattle.society_rows.specs.declared.derived_tables.DerivedTable.TheVariants.{Credits}
-use Rattle.book_audit.specs.Examining.{Never}
+use Rattle.book_audit.specs.Examining.{Never, IsNot}
 use Rattle.book_audit.specs.declared.audit_fault.AuditFault.TheVariants.{Damaged}
 use Rattle.book_audit.proofs.lemmas.Examinations.{examines_as}
-use Rattle.book_audit.specs.Credits.{AreCreditsOf, IsCreditOf, IsNot}
+use Rattle.book_audit.specs.Credits.{AreCreditsOfPools, IsCreditOf}
 use Rattle.book_audit.proofs.lemmas.credits.FirstColumns.{listed_these, these_listed}
 use Rattle.book_audit.proofs.credit_owners.has_no_stranger.Goals as goal
 
@@ -19,7 +19,7 @@ returns-then-are_of_these-clause-examined g c =
     let rows = c.in_ok-rows.rows in
     let old = state g.S.Store c.args.tx.now.conn.now in
     let P = IsCreditOf pools in
-    examines_as {X = Vec Row Global} {Y = Unit {0}} Never (IsNot (AreCreditsOf pools)) old (state g.S.Store c.ask.new.tx.conn.now) rows (Ok tt) (λ db found. ListsFirstColumn Credits db found.items) (λ db _. AreCreditsOf pools db) c.in_ok-rows.ensures.examined
+    examines_as {X = Vec Row Global} {Y = Unit {0}} Never (IsNot (AreCreditsOfPools pools)) old (state g.S.Store c.ask.new.tx.conn.now) rows (Ok tt) (λ db found. ListsFirstColumn Credits db found.items) (λ db _. AreCreditsOfPools pools db) c.in_ok-rows.ensures.examined
     (λ lists. these_listed pools old.now.trees rows.items lists (subst (AllByRecursion P) c.as_slice.ensures.value (c.are_of_these.ensures.0 c.if-are_of_these.true)))
     (λ lists. tt)
 
@@ -29,6 +29,6 @@ returns-clause-examined g c =
     let rows = c.in_ok-rows.rows in
     let old = state g.S.Store c.args.tx.now.conn.now in
     let P = IsCreditOf pools in
-    examines_as {X = Vec Row Global} {Y = Unit {0}} Never (IsNot (AreCreditsOf pools)) old (state g.S.Store c.ask.new.tx.conn.now) rows (Err Damaged) (λ db found. ListsFirstColumn Credits db found.items) (λ db _. AreCreditsOf pools db) c.in_ok-rows.ensures.examined
+    examines_as {X = Vec Row Global} {Y = Unit {0}} Never (IsNot (AreCreditsOfPools pools)) old (state g.S.Store c.ask.new.tx.conn.now) rows (Err Damaged) (λ db found. ListsFirstColumn Credits db found.items) (λ db _. AreCreditsOfPools pools db) c.in_ok-rows.ensures.examined
     (λ lists. tt)
     (λ lists these. false≢true (sym c.if-are_of_these.false ∙ c.are_of_these.ensures.1 (subst (AllByRecursion P) (sym c.as_slice.ensures.value) (listed_these pools old.now.trees rows.items lists these))))

@@ -6,10 +6,9 @@ use Rattle.sqlite_value.specs.Order.{Row}
 use Rattle.society_rows.specs.Questions.{RowsAnswer}
 use Rattle.society_rows.specs.Rows.{credit_values}
 use Rattle.society_rows.specs.declared.questions.Question.TheVariants.{Credits}
-use Rattle.book_audit.specs.Examining.{Never}
+use Rattle.book_audit.specs.Examining.{Never, IsNot}
 use Rattle.book_audit.specs.declared.audit_fault.AuditFault.TheVariants.{Damaged}
 use Rattle.book_audit.proofs.lemmas.Examinations.{examines_as}
-use Rattle.book_audit.specs.Credits.{IsNot}
 use Rattle.book_audit.specs.CreditSteps.{ListsOnly, HasLines}
 use Rattle.book_audit.proofs.credits.are_lines.Goals as goal
 

@@ -1,3 +1,4 @@
+use Rattle.book_audit.specs.Examining.{IsNot}
 use Rattle.std.proofs.Common.{◌≡◌, Ok, Vec, refl, subst, sym}
 use Rattle.std.specs.declared.alloc.Global.{Global}
 use Rattle.sqlite.specs.Held.{state}
@@ -6,7 +7,7 @@ use Rattle.pool_split.specs.declared.claim.Credit.{Credit}
 use Rattle.society_closings.specs.Blamed.{CannotPayAmong}
 use Rattle.society_closings.specs.Closings.{PaysAmong}
 use Rattle.book_audit.proofs.lemmas.Examinations.{examines_as, examines_not, examines_then}
-use Rattle.book_audit.specs.Credits.{FindsCredits, HasCredits, HasNoPool, IsNot, credit_lines}
+use Rattle.book_audit.specs.Credits.{FindsCredits, HasCredits, HasNoPool, credit_lines}
 use Rattle.book_audit.specs.CreditSteps.{ListsOnly}
 use Rattle.book_audit.proofs.lemmas.credits.Finding.{has_pool, no_pool}
 use Rattle.book_audit.proofs.lemmas.credits.Payable.{payable}

@@ -1,4 +1,5 @@
 -- What rows of balances that agree say of the table, by the credits.
+use Rattle.society_closings.specs.Closings.{row_of_account}
 use Rattle.std.proofs.Common.{◌≡◌, true, List, [], ◌∷◌, ap, refl, Result, Ok, Err, IfErr, IfOk, OnOk, filter, subst, sym, IsPermutation}
 use Rattle.std.proofs.lemmas.List.Sorted.{IsPermutation-sym}
 use Rattle.book_audit.specs.Examining.{Judges}
@@ -13,7 +14,7 @@ use Rattle.society_rows.specs.Stored.{rows_in}
 use Rattle.society_rows.specs.declared.tables.TableName.TheVariants.{Balances}
 use Rattle.society_book.specs.Columns.{HasRows}
 use Rattle.society_book.specs.DerivedRows.{is_named}
-use Rattle.book_audit.specs.Balances.{ComesTo, HasBalances, row_by_units, row_of_account}
+use Rattle.book_audit.specs.Balances.{AreTotalsOf, HasBalances, row_by_units}
 use Rattle.book_audit.specs.declared.totals.Totals.{Totals}
 use Rattle.book_audit.proofs.lemmas.balances.BalanceRows.{in_order}
 
@@ -25,24 +26,24 @@ module _ (totals : Totals) (db : Trees) (rows : List Row) (lists : ListsAll Bala
   listed : IsPermutation (rows_in layout.balances db) rows
   listed = subst (λ (l : List Row). IsPermutation l rows) (all_kept (rows_in layout.balances db)) lists.rows
 
-  in_table : HasRows is_named (row_by_units totals.units) rows → (credits : List Credit) → ComesTo totals credits → HasBalances credits db
+  in_table : HasRows is_named (row_by_units totals.units) rows → (credits : List Credit) → AreTotalsOf totals credits → HasBalances credits db
   in_table has credits comes q =
       subst (λ (l : List Row). IsPermutation l (filter (is_named q) (rows_in layout.balances db))) (comes q)
       (in_order (row_by_units totals.units) rows (rows_in layout.balances db) (IsPermutation-sym (rows_in layout.balances db) rows listed) has q)
 
-  as_listed : (credits : List Credit) → ComesTo totals credits → HasBalances credits db → HasRows is_named (row_by_units totals.units) rows
+  as_listed : (credits : List Credit) → AreTotalsOf totals credits → HasBalances credits db → HasRows is_named (row_by_units totals.units) rows
   as_listed credits comes has q =
       subst (λ (l : List Row). IsPermutation l (filter (is_named q) rows)) (sym (comes q)) (in_order (row_of_account credits) (rows_in layout.balances db) rows listed has q)
 
-  pub agreed : (r : Result (Unit {0}) AuditFault) → OnOk r (HasRows is_named (row_by_units totals.units) rows) → IfOk r (λ _. (credits : List Credit) → ComesTo totals credits → HasBalances credits db)
+  pub agreed : (r : Result (Unit {0}) AuditFault) → OnOk r (HasRows is_named (row_by_units totals.units) rows) → IfOk r (λ _. (credits : List Credit) → AreTotalsOf totals credits → HasBalances credits db)
   agreed (Ok x) has = in_table has
   agreed (Err e) has = tt
 
-  told : (fault : AuditFault) → Judges (HasRows is_named (row_by_units totals.units) rows → ⊥) fault → Judges ((credits : List Credit) → ComesTo totals credits → HasBalances credits db → ⊥) fault
+  told : (fault : AuditFault) → Judges (HasRows is_named (row_by_units totals.units) rows → ⊥) fault → Judges ((credits : List Credit) → AreTotalsOf totals credits → HasBalances credits db → ⊥) fault
   told audit.Memory judges = tt
   told audit.Store judges = judges
   told audit.Damaged judges = λ credits comes has. judges (as_listed credits comes has)
 
-  pub judged : (r : Result (Unit {0}) AuditFault) → IfErr r (Judges (HasRows is_named (row_by_units totals.units) rows → ⊥)) → IfErr r (Judges ((credits : List Credit) → ComesTo totals credits → HasBalances credits db → ⊥))
+  pub judged : (r : Result (Unit {0}) AuditFault) → IfErr r (Judges (HasRows is_named (row_by_units totals.units) rows → ⊥)) → IfErr r (Judges ((credits : List Credit) → AreTotalsOf totals credits → HasBalances credits db → ⊥))
   judged (Ok x) judges = tt
   judged (Err fault) judges = told fault judges

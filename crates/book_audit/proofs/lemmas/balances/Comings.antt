@@ -1,4 +1,5 @@
 -- What accounts have come to, with one credit more.
+use Rattle.society_closings.specs.Closings.{row_of_account}
 use Rattle.std.proofs.Common.{◌≡◌, ◌∙◌, ◌+◌, ℕ, pos, Bool, true, false, cond, List, [], ◌∷◌, ◌++◌, Option, Some, None, Vec, refl, ap, sym, bytes_eq, unwrap_or}
 use Rattle.std.proofs.lemmas.List.{append-nil}
 use Rattle.std.proofs.lemmas.List.Elements.{filter-append}
@@ -15,7 +16,7 @@ use Rattle.society_book.specs.BookRows.{row_of_some}
 use Rattle.society_book.specs.DerivedRows.{balance_rows_by}
 use Rattle.society_book.proofs.lemmas.rows_alike.KeyRows.{either_way}
 use Rattle.work_ids.specs.Account.{account_text}
-use Rattle.book_audit.specs.Balances.{balance_row, row_by_units, row_of_account, to_account, units_at}
+use Rattle.book_audit.specs.Balances.{balance_row, row_by_units, to_account, units_at}
 
 no_row : (row : Row) → ◌≡◌ {A = List Row} [] (row ∷ []) → ⊥
 no_row row e = cc

@@ -27,7 +27,7 @@ use Rattle.society_book.proofs.lemmas.rows_alike.RowLemmas.{all_rows}
 use Rattle.society_book.proofs.lemmas.rows_alike.SortedRows.{lines_rise, one_order, rises_second}
 use Rattle.society_book.proofs.lemmas.shown.CreditRows.{HasNumber, found_by_number}
 use Rattle.work_ids.specs.Numbers.{is_pool_number}
-use Rattle.book_audit.specs.Credits.{AreCreditsOf, HasCredits, IsCreditOf, credit_lines}
+use Rattle.book_audit.specs.Credits.{AreCreditsOfPools, HasCredits, IsCreditOf, credit_lines}
 
 -- ---- the lines of a pool's credits begin with its number, and rise
 
@@ -68,7 +68,7 @@ none_of pools q unknown (row ∷ rows) all = by_case (q == whole_number_at 0 row
     by_case true same later = absurd (false≢true (sym unknown ∙ ap (contains nat_cmp pools) (one_number q (whole_number_at 0 row) same) ∙ all.0.1))
 
 -- rows of these pools alone, of each of which there are the lines of what it pays, are those of the pools of a book
-pub has_credit_rows : (o : Office) (b : Book) (db : Trees) (pools : BTreeSet ℕ) → AreCreditsOf pools db → ((q : ℕ) → contains nat_cmp pools q ≡ true → (order : Order) × (order_at b q ≡ Some order) × HasCredits q (credits_of o b order) db)
+pub has_credit_rows : (o : Office) (b : Book) (db : Trees) (pools : BTreeSet ℕ) → AreCreditsOfPools pools db → ((q : ℕ) → contains nat_cmp pools q ≡ true → (order : Order) × (order_at b q ≡ Some order) × HasCredits q (credits_of o b order) db)
     → ((q : ℕ) → contains nat_cmp pools q ≡ false → order_at b q ≡ None) → HasRows (λ pool row. pool == whole_number_at 0 row) (credit_rows o b) (rows_in layout.credits_table db)
 has_credit_rows o b db pools are each none q = by_case (contains nat_cmp pools q) refl
   where
@@ -108,7 +108,7 @@ lines_of_one pools q known small p [] = tt
 lines_of_one pools q known small p (c ∷ cs) = ((refl, known, small), lines_of_one pools q known small (p + 1) cs)
 
 -- the lines of credits in tables that hold a book are of its pools
-pub own_credits : (o : Office) (b : Book) (db : Trees) → HoldsBook o b db → (pools : BTreeSet ℕ) → ((q : ℕ) (order : Order) → order_at b q ≡ Some order → contains nat_cmp pools q ≡ true) → AreCreditsOf pools db
+pub own_credits : (o : Office) (b : Book) (db : Trees) → HoldsBook o b db → (pools : BTreeSet ℕ) → ((q : ℕ) (order : Order) → order_at b q ≡ Some order → contains nat_cmp pools q ≡ true) → AreCreditsOfPools pools db
 own_credits o b db holds pools known =
     all_rows (is_of_pool 0) (whole_number_at 0) own_pool (IsCreditOf pools) (credit_rows o b) (rows_in layout.credits_table db) holds.derived.credits (λ q. by_order q (order_at b q) refl)
   where

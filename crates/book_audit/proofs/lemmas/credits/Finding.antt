@@ -1,4 +1,5 @@
 -- What the lines of a pool's credits say of the tables, by what the pool pays.
+use Rattle.book_audit.specs.Examining.{IsNot}
 use Rattle.std.proofs.Common.{◌≡◌, ◌∙◌, ℕ, pos, List, [], ◌∷◌, ap₂, sym, subst}
 use Rattle.pool_split.specs.declared.claim.Credit.{Credit}
 use Rattle.share_rules.specs.declared.office.Office.{Office}
@@ -9,7 +10,7 @@ use Rattle.society_closings.specs.Closings.{PaysAmong}
 use Rattle.society_closings.specs.declared.pool_works.PoolWorks.{PoolWorks}
 use Rattle.society_rows.specs.Layout as layout
 use Rattle.society_rows.specs.Reads.{Lists, has_key}
-use Rattle.book_audit.specs.Credits.{HasCredits, HasNoPool, IsNot, credit_lines}
+use Rattle.book_audit.specs.Credits.{HasCredits, HasNoPool, credit_lines}
 use Rattle.book_audit.specs.CreditSteps.{ListsOnly}
 use Rattle.book_audit.proofs.lemmas.credits.CreditLines.{credits_shown}
 use Rattle.book_audit.proofs.lemmas.credits.Payable.{payable}

@@ -18,7 +18,7 @@ use Rattle.society_closings.specs.declared.wanted.Wanted.{Wanted}
 use Rattle.society_closings.specs.declared.works_by_recording.WorksByRecording.{WorksByRecording}
 use Rattle.book_audit.proofs.lemmas.Examinations.{examines_looks, examines_then}
 use Rattle.book_audit.specs.Examining.{Examines}
-use Rattle.book_audit.specs.Paying.{CannotPayAny, ListsAll, WantsAll, WantsOrder}
+use Rattle.book_audit.specs.Paying.{CannotPayAny, ListsForAll, WantsAll, WantsOrder}
 use Rattle.book_audit.specs.declared.pool_orders.ClosedPool.{ClosedPool}
 
 -- the works are listed that an order looks for, by each book whose works the tables have
@@ -36,7 +36,7 @@ works_listed closed old mid new wanted works asked looks =
     (λ asks no o b holds can. no o b holds)
 
 -- works that are listed for pools and then weighed are what the pools are paid out of
-pub all_weighed : (o : Office) (closed : List ClosedPool) (db : Trees) (found : WorksByRecording) (works : PoolWorks) → works.listed ≡ found → AllByRecursion (ListsIts db found) closed → AreWorksWeighed o db works → ListsAll o closed db works
+pub all_weighed : (o : Office) (closed : List ClosedPool) (db : Trees) (found : WorksByRecording) (works : PoolWorks) → works.listed ≡ found → AllByRecursion (ListsIts db found) closed → AreWorksWeighed o db works → ListsForAll o closed db works
 all_weighed o closed db found works same lists weighed =
     all_weaker (ListsIts db found) (λ (x : ClosedPool). ListsOrder o x.order db works)
     (λ x each. (λ other b holds. subst (ListsWorks (wants_for x.order.cut (is_reported b x.order)) db) (sym same) (each other b holds), weighed)) closed lists

@@ -18,7 +18,7 @@ use Rattle.society_book.specs.Columns.{blob_at, text_at, whole_number_at}
 use Rattle.society_book.proofs.lemmas.rows_alike.KeyRows.{both_same, filled_same, keyed}
 use Rattle.society_book.proofs.lemmas.shown.AskLemmas.{first_true, second_true}
 use Rattle.book_audit.specs.Entries.{has_body, is_right_return}
-use Rattle.book_audit.specs.Judging.{AreReported, has_key_form, is_one_right, is_reported_at, is_reported_key, is_spelled}
+use Rattle.book_audit.specs.Judging.{AreReported, has_key_form, is_one_right, is_reported_at, is_reported_key, is_reporter_spelled}
 use Rattle.book_audit.proofs.lemmas.entries.KeyForms.{has_own, key_form, row_form}
 use Rattle.book_audit.proofs.lemmas.entries.KeyedRows.{entries_by_keys, keys_by_entries, one_right_again}
 use Rattle.book_audit.proofs.lemmas.entries.RowForms.{body_form, is_unfilled}
@@ -57,7 +57,7 @@ record IsReportedKey (k : Row) : Type 0 where
 
 key_parts : (k : Row) → is_reported_key k ≡ true → IsReportedKey k
 key_parts k h =
-    let spelled = is_spelled (text_at 0 k) in
+    let spelled = is_reporter_spelled (text_at 0 k) in
     let front : (has_key_form k && spelled) ≡ true = first_true (has_key_form k && spelled) (is_return_number (whole_number_at 1 k)) h in
     record {
       form = first_true (has_key_form k) spelled front;

@@ -1,4 +1,5 @@
 -- What is derived of the lines of all senders, as the rows of a database have it.
+use Rattle.book_audit.specs.Entries.{is_text}
 use Rattle.std.proofs.Common.{◌≡◌, ◌∙◌, ◌||◌, ℕ, pos, Bool, true, false, cond, List, [], ◌∷◌, refl, ap, sym, subst, filter, bytes_eq, IsPermutation}
 use Rattle.std.specs.List.{AllByRecursion}
 use Rattle.std.proofs.lemmas.Bool.{false≢true}
@@ -20,7 +21,7 @@ use Rattle.society_book.specs.DerivedRows.{front_rows, is_named, knows_sender, t
 use Rattle.society_arrivals.specs.Runs.{is_key_among}
 use Rattle.society_rows.proofs.lemmas.readings.KeyEquality.{text_equal}
 use Rattle.society_book.proofs.lemmas.rows_alike.KeyRows.{last_truth}
-use Rattle.book_audit.specs.Auditing.{AreLinesOf, AreNamed, AreSenders, HasLine, is_text, of_sender}
+use Rattle.book_audit.specs.Auditing.{AreLinesOf, AreNamed, AreSenders, HasLine, of_sender}
 use Rattle.book_audit.proofs.lemmas.lines.Strangers.{nothing_told, unknown_front}
 
 -- a value that is a text is its bytes

@@ -1,4 +1,5 @@
 -- Which senders the rows of what is derived of lines begin with.
+use Rattle.book_audit.specs.Entries.{is_text}
 use Rattle.std.proofs.Common.{◌≡◌, ◌∙◌, ◌⊎◌, ◌&&◌, ◌==◌, ◌||◌, if◌then◌else◌, ℕ, pos, Bool, true, false, cond, List, [], ◌∷◌, Option, Some, None, Ok, Err, inl, inr, is_none, is_ok, is_some, flat_map, refl, ap, ap₂, sym, subst, filter, map, length, bytes_eq}
 use Rattle.std.specs.FinMap as finite
 use Rattle.std.specs.BTreeSet.{BTreeSet, IsFromIterResult, contains}
@@ -35,7 +36,7 @@ use Rattle.society_book.proofs.lemmas.lines.KnownSenders.{key_there, sent_there}
 use Rattle.society_book.proofs.lemmas.rows_alike.KeyRows.{either_way}
 use Rattle.society_book.proofs.lemmas.rows_alike.RowLemmas.{all_rows}
 use Rattle.society_book.proofs.lemmas.shown.AskLemmas.{first_true, second_true}
-use Rattle.book_audit.specs.Auditing.{AreLinesOf, AreNamed, AreSenders, is_of_one, is_of_sender, is_text}
+use Rattle.book_audit.specs.Auditing.{AreLinesOf, AreNamed, AreSenders, is_of_one, is_of_sender}
 use Rattle.book_audit.specs.LineSteps.{AreAllOfThese, AreOfThese}
 use Rattle.book_audit.proofs.lemmas.lines.OwnLines.{Names, front_named, recordings_named, verdicts_named, versions_named}
 use Rattle.cwr_files.specs.FileFault.{file_fault}

@@ -7,11 +7,10 @@ use Rattle.sqlite_trees.specs.Tree.{Trees}
 use Rattle.sqlite_schema.specs.declared.schema.Table.{Table}
 use Rattle.sqlite_value.specs.Order.{Row}
 use Rattle.society_rows.specs.Stored.{rows_in}
-use Rattle.book_audit.specs.Examining.{Examines}
+use Rattle.book_audit.specs.Examining.{Examines, IsNot}
 use Rattle.book_audit.specs.declared.audit_fault.AuditFault.{AuditFault}
 use Rattle.book_audit.specs.Alike.{IsExact}
 use Rattle.book_audit.specs.Auditing.{HasRowsOf, of_sender}
-use Rattle.book_audit.specs.LineSteps.{IsNot}
 use Rattle.book_audit.proofs.lemmas.Examinations.{examines_also}
 
 -- what is found has what holds of it

@@ -23,7 +23,7 @@ use Rattle.society_book.specs.BookRows.{cut_row, is_of_pool, kind_marked, marks_
 use Rattle.society_book.specs.Columns.{HasRows, whole_number_at}
 use Rattle.society_book.proofs.lemmas.rows_alike.BookLemmas.{numbers_tie}
 use Rattle.work_ids.specs.Numbers.{is_pool_number, number_where}
-use Rattle.book_audit.specs.OrderParts.{AreOnce, ArePartsOf, Numbers, OrdersFrom, SaysCut, SaysMark, SaysPaid}
+use Rattle.book_audit.specs.OrderParts.{StandOnce, ArePartsOf, Numbers, OrdersFrom, SaysCut, SaysMark, SaysPaid}
 use Rattle.book_audit.specs.Pools.{AreClosedBy, AreOrdersOf, IsClosedBy, cut_pair, orders_by, paid_pair}
 use Rattle.book_audit.specs.declared.pool_orders.ClosedPool.{ClosedPool}
 use Rattle.book_audit.specs.declared.pool_tables.PoolRows.{PoolRows}
@@ -239,7 +239,7 @@ module _ (rows : PoolRows) (numbers : BTreeSet ℕ) (closed : List ClosedPool) (
           subst (λ (x : Option Order). IsPermutation (rows_of_order (paid_row q) (λ order. order.returns) x) these) (sym some.1)
           (IsPermutation-sym these (map (paid_row q) one.order.returns) (subst (λ (l : List Row). IsPermutation l (map (paid_row q) one.order.returns)) left (subst (IsPermutation (map row_by pairs)) right there)))
 
-  marks_are : AllByRecursion (SaysMark numbers) rows.marks.items → AreOnce rows.marks.items → HasRows (is_of_pool 0) (λ q. marks_by q (finite.get (orders_by closed) q)) rows.marks.items
+  marks_are : AllByRecursion (SaysMark numbers) rows.marks.items → StandOnce rows.marks.items → HasRows (is_of_pool 0) (λ q. marks_by q (finite.get (orders_by closed) q)) rows.marks.items
   marks_are each once q = subst (λ (o : Option Order). IsPermutation (marks_by q o) these) (sym (got closed q)) (by_among (order_among q closed) (among rows q rows.pools.items closed all))
     where
       these : List Row

@@ -17,7 +17,7 @@ use Rattle.society_book.specs.Columns.{HasRows, text_at, whole_number_at}
 use Rattle.society_book.proofs.lemmas.rows_alike.BookLemmas.{IsRefilled}
 use Rattle.society_book.proofs.lemmas.rows_alike.RowLemmas.{all_rows, none_else, one_else, only}
 use Rattle.work_ids.specs.Blanks.{fill, without_trailing_blanks}
-use Rattle.book_audit.specs.OrderParts.{AreOnce, IsKnownCut, IsKnownMark, IsKnownPaid, Numbers}
+use Rattle.book_audit.specs.OrderParts.{StandOnce, IsKnownCut, IsKnownMark, IsKnownPaid, Numbers}
 use Rattle.book_audit.specs.Pools.{IsClosed}
 use Rattle.sqlite_trees.proofs.ListLemmas.{all-get_or}
 use Rattle.book_audit.proofs.lemmas.orders.OrdersAgain.{IsCut, IsMark, IsPaid, all_cuts, all_marks, all_paid, own_payer, own_pool, pool_form, refilled}
@@ -52,11 +52,11 @@ only_mark q (Some order) ys p = by_kind order.kind p
 
 module _ (b : Book) (sound : IsSound b) where
   -- a pool of a book stands once
-  pub pools_once : (rows : List Row) → HasRows (is_of_pool 0) (pool_rows b) rows → AreOnce rows
+  pub pools_once : (rows : List Row) → HasRows (is_of_pool 0) (pool_rows b) rows → StandOnce rows
   pools_once rows has q = subst (λ (l : List Row). length l ≤ 1) (sym (only (pool_row q) (order_at b q) (filter (is_of_pool 0 q) rows) (has q))) (few_of (pool_row q) (order_at b q))
 
   -- and so does its mark
-  pub marks_once : (rows : List Row) → HasRows (is_of_pool 0) (mechanical_rows b) rows → AreOnce rows
+  pub marks_once : (rows : List Row) → HasRows (is_of_pool 0) (mechanical_rows b) rows → StandOnce rows
   marks_once rows has q = subst (λ (l : List Row). length l ≤ 1) (sym (only_mark q (order_at b q) (filter (is_of_pool 0 q) rows) (has q))) (few_marks q (order_at b q))
 
   -- the rows of its pools are of the form

@@ -30,7 +30,7 @@ use Rattle.society_book.proofs.lemmas.rows_alike.NamedRows.{found_by_name, one_o
 use Rattle.society_book.proofs.lemmas.shown.FrontRows.{front_of_nobody, fronts_named}
 use Rattle.work_ids.specs.Blanks.{without_trailing_blanks}
 use Rattle.work_ids.specs.SegmentEnds.{StatedEnd}
-use Rattle.book_audit.specs.Standing.{HoldsLines, IsReach, Learns}
+use Rattle.book_audit.specs.Standing.{HoldsLines, IsReach, LearnsReach}
 use Rattle.book_audit.specs.declared.reached.Reach.{Reach}
 use Rattle.book_audit.specs.declared.reached.Reached.{Reached}
 use Rattle.book_audit.proofs.lemmas.orders.OrdersAgain.{the_same}
@@ -62,7 +62,7 @@ line_told o b db holds key ends n t reads is says =
     says led within ∙ ap₂ (λ (es : StatedEnds) (k : ℕ). is_one_of (numbers_up_to es k) key.number) listed is ∙ sym (in_line_is b s key.number)
 
 -- how far one sender more came is known
-pub learned : (db : Trees) (old new : Reached) (s : List ℕ) (reach : Reach) → ((q : List ℕ) → tree.get bytes_cmp new.by_sender q ≡ cond (eq_by_cmp bytes_cmp s q) (Some reach) (tree.get bytes_cmp old.by_sender q)) → IsReach s db reach → Learns s old new db
+pub learned : (db : Trees) (old new : Reached) (s : List ℕ) (reach : Reach) → ((q : List ℕ) → tree.get bytes_cmp new.by_sender q ≡ cond (eq_by_cmp bytes_cmp s q) (Some reach) (tree.get bytes_cmp old.by_sender q)) → IsReach s db reach → LearnsReach s old new db
 learned db old new s reach put here known = (λ q found there. by_case q found (eq_by_cmp bytes_cmp s q) refl (sym (put q) ∙ there), ap is_some (put s) ∙ itself (eq_by_cmp bytes_cmp s s) (is_eq-slice_cmp s s ∙ (bytes_eq-Decides s s).1 refl))
   where
     by_case : (q : List ℕ) (found : Reach) (c : Bool) → eq_by_cmp bytes_cmp s q ≡ c → cond c (Some reach) (tree.get bytes_cmp old.by_sender q) ≡ Some found → IsReach q db found

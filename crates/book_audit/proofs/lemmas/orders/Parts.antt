@@ -18,7 +18,7 @@ use Rattle.society_book.specs.BookRows.{mechanical_row}
 use Rattle.society_book.specs.Columns.{text_at}
 use Rattle.work_ids.specs.Blanks.{fill, without_trailing_blanks}
 use Rattle.work_ids.specs.Reporter.{reporter_of}
-use Rattle.book_audit.specs.OrderParts.{AreOnce, IsKnownPaid, SaysMark}
+use Rattle.book_audit.specs.OrderParts.{StandOnce, IsKnownPaid, SaysMark}
 
 -- of a list in which one passes one is kept at least
 some_kept : {X : Type 0} (p : X → Bool) (xs : List X) → list_any p xs ≡ true → 1 ≤ length (filter p xs)
@@ -54,7 +54,7 @@ own_pool : (row : Row) → is_of_pool 0 (whole_number_at 0 row) row ≡ true
 own_pool row = grind (arith, nat_tests)
 
 -- a pool of which a row stands among the first, and that has one more, stands twice
-pub stands_twice : (rows : List Row) (i : ℕ) (row : Row) → i < length rows → row ≡ get_or rows i row → list_any (is_of_pool 0 (whole_number_at 0 row)) (take i rows) ≡ true → AreOnce rows → ⊥
+pub stands_twice : (rows : List Row) (i : ℕ) (row : Row) → i < length rows → row ≡ get_or rows i row → list_any (is_of_pool 0 (whole_number_at 0 row)) (take i rows) ≡ true → StandOnce rows → ⊥
 stands_twice rows i row within is any once =
     let q = whole_number_at 0 row in
     let few = once q in
@@ -63,7 +63,7 @@ stands_twice rows i row within is any once =
     omega (arith, few, first, more)
 
 -- the first rows stand once with one more of a pool that has none among them
-pub once_more : (rows : List Row) (i : ℕ) (row : Row) → i < length rows → row ≡ get_or rows i row → AreOnce (take i rows) → list_any (is_of_pool 0 (whole_number_at 0 row)) (take i rows) ≡ false → AreOnce (take (i + 1) rows)
+pub once_more : (rows : List Row) (i : ℕ) (row : Row) → i < length rows → row ≡ get_or rows i row → StandOnce (take i rows) → list_any (is_of_pool 0 (whole_number_at 0 row)) (take i rows) ≡ false → StandOnce (take (i + 1) rows)
 once_more rows i row within is once none q = subst (λ (l : List Row). length (filter (is_of_pool 0 q) l) ≤ 1) (sym (take_more rows i row within ∙ ap (λ (r : Row). take i rows ++ r ∷ []) (sym is))) (subst (λ (l : List Row). length l ≤ 1) (sym (filter-append (is_of_pool 0 q) (take i rows) (row ∷ []))) (by_case (is_of_pool 0 q row) refl))
   where
     by_case : (b : Bool) → is_of_pool 0 q row ≡ b → length (filter (is_of_pool 0 q) (take i rows) ++ cond b (row ∷ []) []) ≤ 1

@@ -1,3 +1,4 @@
+use Rattle.book_audit.specs.Examining.{IsNot}
 use Rattle.sqlite.specs.Held.{state}
 use Rattle.society_core.proofs.lemmas.Books.{sound_order}
 use Rattle.society_book.specs.BookRows.{book_of}
@@ -5,7 +6,7 @@ use Rattle.society_arrivals.specs.Going.{IsWholeIn}
 use Rattle.society_book.specs.RightRows.{KeepsUnsound}
 use Rattle.book_audit.proofs.lemmas.Examinations.{examines_then}
 use Rattle.book_audit.specs.Auditing.{HasRun}
-use Rattle.book_audit.specs.LineSteps.{DeniesLine, FindsLine, IsNot}
+use Rattle.book_audit.specs.LineSteps.{DeniesLine, FindsLine}
 use Rattle.book_audit.proofs.lemmas.lines.LineAudits.{has_line, line_has}
 use Rattle.book_audit.proofs.lemmas.lines.OwnLines.{own_line}
 use Rattle.book_audit.proofs.lines.line_agrees.Goals as goal

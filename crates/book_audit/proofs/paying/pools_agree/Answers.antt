@@ -1,9 +1,10 @@
+use Rattle.book_audit.specs.Examining.{IsNot}
 use Rattle.sqlite.specs.Held.{state}
 use Rattle.sqlite_trees.specs.Tree.{Trees}
 use Rattle.pool_split.specs.declared.claim.Credit.{Credit}
 use Rattle.std.proofs.Common.{List}
-use Rattle.book_audit.specs.Balances.{ComesTo, HasBalances}
-use Rattle.book_audit.specs.Credits.{AreCreditsOf, IsNot}
+use Rattle.book_audit.specs.Balances.{AreTotalsOf, HasBalances}
+use Rattle.book_audit.specs.Credits.{AreCreditsOfPools}
 use Rattle.book_audit.specs.Paying.{DeniesPools, FindsPools, LackPools, credits_by}
 use Rattle.book_audit.proofs.lemmas.Examinations.{examines_not, examines_then}
 use Rattle.book_audit.proofs.lemmas.OwnPools.{all_reached, balances_own, credits_own, works_held}
@@ -19,8 +20,8 @@ returns-in_err-has_no_stranger-clause-examined g c =
     let closed = c.args.closed.now in
     let numbers = c.in_ok-numbers.numbers in
     let r = c.from_residual-in_err-has_no_stranger.result in
-    examines_then (LackPools o closed) (IsNot (AreCreditsOf numbers)) (DeniesPools o closed) old mid new c.in_ok-totals.totals r _ (λ db (done : Unit {0}). FindsPools o closed db) _ c.in_ok-totals.ensures.examined
-    (examines_not (IsNot (AreCreditsOf numbers)) (IsNot (AreCreditsOf numbers)) mid new c.in_err-has_no_stranger.field-0.0 r _ _ c.in_err-has_no_stranger.ensures.examined c.from_residual-in_err-has_no_stranger.ensures.1 (λ wrong. wrong))
+    examines_then (LackPools o closed) (IsNot (AreCreditsOfPools numbers)) (DeniesPools o closed) old mid new c.in_ok-totals.totals r _ (λ db (done : Unit {0}). FindsPools o closed db) _ c.in_ok-totals.ensures.examined
+    (examines_not (IsNot (AreCreditsOfPools numbers)) (IsNot (AreCreditsOfPools numbers)) mid new c.in_err-has_no_stranger.field-0.0 r _ _ c.in_err-has_no_stranger.ensures.examined c.from_residual-in_err-has_no_stranger.ensures.1 (λ wrong. wrong))
     (λ done paid found. found)
     (λ paid wrong book holds there whole apart. wrong (credits_own o book db holds closed whole numbers c.in_ok-numbers.ensures))
 
@@ -35,10 +36,10 @@ returns-clause-examined g c =
     let closed = c.args.closed.now in
     let numbers = c.in_ok-numbers.numbers in
     let totals = c.in_ok-totals.totals in
-    let Apart : Trees → Type 0 = λ db. (credits : List Credit) → ComesTo totals credits → HasBalances credits db → ⊥ in
-    let Agree : Trees → Type 0 = λ db. (credits : List Credit) → ComesTo totals credits → HasBalances credits db in
-    examines_then (LackPools o closed) Apart (DeniesPools o closed) old one new totals c.balances_agree.result _ (λ db (done : Unit {0}). AreCreditsOf numbers db × Agree db) _ c.in_ok-totals.ensures.examined
-    (examines_then (IsNot (AreCreditsOf numbers)) Apart Apart one two new tt c.balances_agree.result _ (λ db (done : Unit {0}). Agree db) _ c.in_ok-has_no_stranger.ensures.examined c.balances_agree.ensures.examined
+    let Apart : Trees → Type 0 = λ db. (credits : List Credit) → AreTotalsOf totals credits → HasBalances credits db → ⊥ in
+    let Agree : Trees → Type 0 = λ db. (credits : List Credit) → AreTotalsOf totals credits → HasBalances credits db in
+    examines_then (LackPools o closed) Apart (DeniesPools o closed) old one new totals c.balances_agree.result _ (λ db (done : Unit {0}). AreCreditsOfPools numbers db × Agree db) _ c.in_ok-totals.ensures.examined
+    (examines_then (IsNot (AreCreditsOfPools numbers)) Apart Apart one two new tt c.balances_agree.result _ (λ db (done : Unit {0}). Agree db) _ c.in_ok-has_no_stranger.ensures.examined c.balances_agree.ensures.examined
     (λ done owners agree. (owners, agree)) (λ owners wrong. wrong))
     (λ done paid found. record {
       numbers = numbers;

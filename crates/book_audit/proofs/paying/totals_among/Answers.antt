@@ -4,7 +4,7 @@ use Rattle.book_audit.proofs.lemmas.Examinations.{examines_as, examines_not, exa
 use Rattle.book_audit.proofs.lemmas.Paid.{paid_more}
 use Rattle.book_audit.proofs.lemmas.orders.Steps.{each_here}
 use Rattle.book_audit.specs.Credits.{FindsCredits, HasNoPool}
-use Rattle.book_audit.specs.Paying.{FindsPaid, LackPools, ListsAll}
+use Rattle.book_audit.specs.Paying.{FindsPaid, LackPools, ListsForAll}
 use Rattle.book_audit.specs.declared.pool_orders.ClosedPool.{ClosedPool}
 use Rattle.book_audit.specs.declared.totals.Totals.{Totals}
 use Rattle.society_closings.specs.Closings.{ListsOrder}
@@ -25,7 +25,7 @@ loop-one-preserved g c =
     let one = c.one-item.result in
     let credits = c.in_ok-credits.credits in
     let works = c.args.works.now in
-    let Wrong : Trees → Type 0 = λ db. ListsAll o closed db works → LackPools o closed db in
+    let Wrong : Trees → Type 0 = λ db. ListsForAll o closed db works → LackPools o closed db in
     let here = each_here (λ (x : ClosedPool). ListsOrder o x.order db works) closed i one c.loop-one-test.true c.one-item.is in
     record {
       same_reference = c.credits_agree.ensures.same_reference ∙ c.loop-one.invariant.same_reference;
@@ -45,8 +45,8 @@ returns-in_err-credits-clause-examined g c =
     let works = c.args.works.now in
     let i = c.loop-one.one-index in
     let one = c.one-item.result in
-    let Wrong : Trees → Type 0 = λ db. ListsAll o closed db works → LackPools o closed db in
-    let Finds : Trees → Totals → Type 0 = λ db totals. ListsAll o closed db works → FindsPaid o closed closed db totals in
+    let Wrong : Trees → Type 0 = λ db. ListsForAll o closed db works → LackPools o closed db in
+    let Finds : Trees → Totals → Type 0 = λ db totals. ListsForAll o closed db works → FindsPaid o closed closed db totals in
     let Lacks : Trees → Type 0 = HasNoPool o one.pool one.order works in
     examines_then Wrong Lacks Wrong old mid new tt c.from_residual.result _ Finds Finds c.loop-one.invariant.examined
     (examines_not Lacks Lacks mid new c.in_err-credits.field-0.0 c.from_residual.result _ Finds c.in_err-credits.ensures.examined c.from_residual.ensures.1 (λ lacks. lacks))

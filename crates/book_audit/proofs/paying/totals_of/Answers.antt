@@ -2,7 +2,7 @@ use Rattle.sqlite.specs.Held.{state}
 use Rattle.sqlite_trees.specs.Tree.{Trees}
 use Rattle.book_audit.proofs.lemmas.Examinations.{examines_not, examines_then}
 use Rattle.book_audit.proofs.lemmas.OwnPools.{all_payable}
-use Rattle.book_audit.specs.Paying.{CannotPayAny, FindsPaid, LackPools, ListsAll}
+use Rattle.book_audit.specs.Paying.{CannotPayAny, FindsPaid, LackPools, ListsForAll}
 use Rattle.book_audit.specs.declared.totals.Totals.{Totals}
 use Rattle.society_closings.specs.declared.pool_works.PoolWorks.{PoolWorks}
 use Rattle.book_audit.proofs.paying.totals_of.Goals as goal
@@ -12,7 +12,7 @@ returns-in_err-works-clause-examined g c =
     let o = c.args.office.now in
     let closed = c.args.closed.now in
     let old = state g.S.Store c.args.tx.now.conn.now in
-    examines_not {X = PoolWorks} {Y = Totals} (CannotPayAny closed) (LackPools o closed) old (state g.S.Store c.works_of.new.tx.conn.now) c.in_err-works.field-0.0 c.from_residual.result (ListsAll o closed) (FindsPaid o closed closed)
+    examines_not {X = PoolWorks} {Y = Totals} (CannotPayAny closed) (LackPools o closed) old (state g.S.Store c.works_of.new.tx.conn.now) c.in_err-works.field-0.0 c.from_residual.result (ListsForAll o closed) (FindsPaid o closed closed)
     c.in_err-works.ensures.examined c.from_residual.ensures.1 (λ cannot book holds there. all_payable o book old.now.trees holds closed cannot there)
 
 pub returns-clause-examined : goal.returns-clause-examined
@@ -23,6 +23,6 @@ returns-clause-examined g c =
     let old = state g.S.Store c.args.tx.now.conn.now in
     let mid = state g.S.Store c.works_of.new.tx.conn.now in
     let new = state g.S.Store c.totals_among.new.tx.conn.now in
-    let Lack : Trees → Type 0 = λ db. ListsAll o closed db works → LackPools o closed db in
-    examines_then (CannotPayAny closed) Lack (LackPools o closed) old mid new works c.totals_among.result _ (λ db (totals : Totals). ListsAll o closed db works → FindsPaid o closed closed db totals) _ c.in_ok-works.ensures.examined c.totals_among.ensures.examined
+    let Lack : Trees → Type 0 = λ db. ListsForAll o closed db works → LackPools o closed db in
+    examines_then (CannotPayAny closed) Lack (LackPools o closed) old mid new works c.totals_among.result _ (λ db (totals : Totals). ListsForAll o closed db works → FindsPaid o closed closed db totals) _ c.in_ok-works.ensures.examined c.totals_among.ensures.examined
     (λ totals listed finds. finds listed) (λ listed lacks. lacks listed)

@@ -3,7 +3,7 @@ use Rattle.std.specs.List.{AllByRecursion}
 use Rattle.sqlite.specs.Held.{state}
 use Rattle.book_audit.proofs.lemmas.Examinations.{examines_as, examines_failed, examines_not, examines_then}
 use Rattle.book_audit.proofs.lemmas.credits.WorksListed.{ListsIts, all_weighed, works_listed}
-use Rattle.book_audit.specs.Paying.{CannotPayAny, ListsAll}
+use Rattle.book_audit.specs.Paying.{CannotPayAny, ListsForAll}
 use Rattle.society_closings.specs.Blamed.{HoldNoWorks}
 use Rattle.society_closings.specs.CutWorks.{ListsWorks, wants}
 use Rattle.society_closings.specs.Weighing.{AreWorksWeighed}
@@ -20,8 +20,8 @@ returns-in_err-works-clause-examined g c =
     let mid = state g.S.Store c.wanted_by.new.tx.conn.now in
     let new = state g.S.Store c.works.new.tx.conn.now in
     let r = c.from_residual-in_err-works.result in
-    examines_then (CannotPayAny closed) HoldNoWorks (CannotPayAny closed) old mid new wanted r _ (ListsAll o closed) (ListsAll o closed) c.in_ok-wanted.ensures.examined
-    (examines_failed {X = WorksByRecording} HoldNoWorks mid new c.in_err-works.field-0.0 r (ListsWorks (wants wanted)) (ListsAll o closed) c.in_err-works.ensures.looks c.in_err-works.ensures.err c.from_residual-in_err-works.ensures.1)
+    examines_then (CannotPayAny closed) HoldNoWorks (CannotPayAny closed) old mid new wanted r _ (ListsForAll o closed) (ListsForAll o closed) c.in_ok-wanted.ensures.examined
+    (examines_failed {X = WorksByRecording} HoldNoWorks mid new c.in_err-works.field-0.0 r (ListsWorks (wants wanted)) (ListsForAll o closed) c.in_err-works.ensures.looks c.in_err-works.ensures.err c.from_residual-in_err-works.ensures.1)
     (λ works asked lists. lists)
     (λ asked no other b holds can. no other b holds)
 
@@ -34,9 +34,9 @@ returns-in_err-weigh-clause-examined g c =
     let mid = state g.S.Store c.works.new.tx.conn.now in
     let new = state g.S.Store c.weigh.new.tx.conn.now in
     let r = c.from_residual-in_err-weigh.result in
-    examines_then (CannotPayAny closed) HoldNoWorks (CannotPayAny closed) old mid new found r (λ db works. AllByRecursion (ListsIts db works) closed) (ListsAll o closed) (ListsAll o closed)
+    examines_then (CannotPayAny closed) HoldNoWorks (CannotPayAny closed) old mid new found r (λ db works. AllByRecursion (ListsIts db works) closed) (ListsForAll o closed) (ListsForAll o closed)
     (works_listed closed old (state g.S.Store c.wanted_by.new.tx.conn.now) mid c.in_ok-wanted.wanted found c.in_ok-wanted.ensures.examined c.in_ok-works.ensures.looks)
-    (examines_not {X = Unit {0}} {Y = PoolWorks} HoldNoWorks HoldNoWorks mid new c.in_err-weigh.field-0.0 r (λ db _. AreWorksWeighed o db c.of-works.result → AreWorksWeighed o db c.weigh.new.works) (ListsAll o closed) c.in_err-weigh.ensures.examined c.from_residual-in_err-weigh.ensures.1 (λ no. no))
+    (examines_not {X = Unit {0}} {Y = PoolWorks} HoldNoWorks HoldNoWorks mid new c.in_err-weigh.field-0.0 r (λ db _. AreWorksWeighed o db c.of-works.result → AreWorksWeighed o db c.weigh.new.works) (ListsForAll o closed) c.in_err-weigh.ensures.examined c.from_residual-in_err-weigh.ensures.1 (λ no. no))
     (λ works lists all. all)
     (λ lists no other b holds can. no other b holds)
 
@@ -49,8 +49,8 @@ returns-clause-examined g c =
     let old = state g.S.Store c.args.tx.now.conn.now in
     let mid = state g.S.Store c.works.new.tx.conn.now in
     let new = state g.S.Store c.weigh.new.tx.conn.now in
-    examines_as (CannotPayAny closed) (CannotPayAny closed) old new tt (Ok works) (λ db (done : Unit {0}). ListsAll o closed db works) (ListsAll o closed)
-    (examines_then (CannotPayAny closed) HoldNoWorks (CannotPayAny closed) old mid new found (Ok tt) (λ db listed. AllByRecursion (ListsIts db listed) closed) (λ db (done : Unit {0}). AreWorksWeighed o db c.of-works.result → AreWorksWeighed o db works) (λ db (done : Unit {0}). ListsAll o closed db works)
+    examines_as (CannotPayAny closed) (CannotPayAny closed) old new tt (Ok works) (λ db (done : Unit {0}). ListsForAll o closed db works) (ListsForAll o closed)
+    (examines_then (CannotPayAny closed) HoldNoWorks (CannotPayAny closed) old mid new found (Ok tt) (λ db listed. AllByRecursion (ListsIts db listed) closed) (λ db (done : Unit {0}). AreWorksWeighed o db c.of-works.result → AreWorksWeighed o db works) (λ db (done : Unit {0}). ListsForAll o closed db works)
     (works_listed closed old (state g.S.Store c.wanted_by.new.tx.conn.now) mid c.in_ok-wanted.wanted found c.in_ok-wanted.ensures.examined c.in_ok-works.ensures.looks)
     c.in_ok-weigh.ensures.examined
     (λ done lists weighs. all_weighed o closed old.now.trees found works (c.in_ok-weigh.ensures.listed ∙ c.of-works.ensures.listed) lists (weighs (c.of-works.ensures.none o old.now.trees)))

@@ -1,8 +1,9 @@
+use Rattle.book_audit.specs.Examining.{IsNot}
 use Rattle.sqlite.specs.Held.{state}
 use Rattle.society_book.specs.BookRows.{book_of}
 use Rattle.book_audit.proofs.lemmas.Examinations.{examines_also}
 use Rattle.book_audit.specs.Auditing.{AreLinesOf}
-use Rattle.book_audit.specs.LineSteps.{AreAllOfThese, DeniesLines, IsNot}
+use Rattle.book_audit.specs.LineSteps.{AreAllOfThese, DeniesLines}
 use Rattle.book_audit.proofs.lemmas.lines.Strangers.{lines_of_these, own_these}
 use Rattle.book_audit.proofs.strangers.has_no_stranger.Goals as goal
 

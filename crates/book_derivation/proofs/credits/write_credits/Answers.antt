@@ -1,8 +1,7 @@
 use Rattle.std.proofs.Common.{◌≡◌, Err, Ok, subst}
 use Rattle.sqlite.specs.Held.{state}
 use Rattle.sqlite_trees.specs.Tree.{Trees}
-use Rattle.book_audit.specs.Paying.{CannotPayAll, CannotPayAny, ListsAll}
-use Rattle.book_audit.specs.declared.totals.Totals.{Totals}
+use Rattle.book_audit.specs.Paying.{CannotPayAll, CannotPayAny, ListsForAll}
 use Rattle.book_derivation.proofs.lemmas.Derivings.{derives_examined, derives_not, derives_then}
 use Rattle.book_derivation.specs.Money.{CannotPayListed, WritesCredits, WritesListed}
 use Rattle.society_closings.specs.declared.pool_works.PoolWorks.{PoolWorks}
@@ -15,8 +14,8 @@ returns-in_err-works-clause-derives g c =
     let old = state g.S.Store c.args.tx.now.conn.now in
     let new = state g.S.Store c.works_of.new.tx.conn.now in
     let fault = c.in_err-works.field-0.0 in
-    derives_not {X = PoolWorks} (CannotPayAny closed) (CannotPayAll o closed) old new fault c.from_residual.result (λ before after (works : PoolWorks). (after ≡ before) × ListsAll o closed before works) (WritesCredits o closed)
-    (derives_examined (CannotPayAny closed) old new (Err fault) (ListsAll o closed) c.in_err-works.ensures.examined) c.from_residual.ensures.1 (λ cannot. cannot o)
+    derives_not {X = PoolWorks} (CannotPayAny closed) (CannotPayAll o closed) old new fault c.from_residual.result (λ before after (works : PoolWorks). (after ≡ before) × ListsForAll o closed before works) (WritesCredits o closed)
+    (derives_examined (CannotPayAny closed) old new (Err fault) (ListsForAll o closed) c.in_err-works.ensures.examined) c.from_residual.ensures.1 (λ cannot. cannot o)
 
 pub returns-clause-derives : goal.returns-clause-derives
 returns-clause-derives g c =
@@ -26,6 +25,6 @@ returns-clause-derives g c =
     let old = state g.S.Store c.args.tx.now.conn.now in
     let mid = state g.S.Store c.works_of.new.tx.conn.now in
     let new = state g.S.Store c.write_each.new.tx.conn.now in
-    derives_then (CannotPayAny closed) (CannotPayListed o closed works) (CannotPayAll o closed) old mid new works c.write_each.result (λ before after (works : PoolWorks). (after ≡ before) × ListsAll o closed before works) (WritesListed o closed works) (WritesCredits o closed)
-    (derives_examined (CannotPayAny closed) old mid (Ok works) (ListsAll o closed) c.in_ok-works.ensures.examined) c.write_each.ensures.derives
+    derives_then (CannotPayAny closed) (CannotPayListed o closed works) (CannotPayAll o closed) old mid new works c.write_each.result (λ before after (works : PoolWorks). (after ≡ before) × ListsForAll o closed before works) (WritesListed o closed works) (WritesCredits o closed)
+    (derives_examined (CannotPayAny closed) old mid (Ok works) (ListsForAll o closed) c.in_ok-works.ensures.examined) c.write_each.ensures.derives
     (λ totals own later listed writes. subst (λ (db : Trees). WritesListed o closed works db new.now.trees totals) listed.0 writes listed.1) (λ own listed lacks. subst (CannotPayListed o closed works) listed.0 lacks listed.1)

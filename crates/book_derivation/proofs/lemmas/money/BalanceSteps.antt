@@ -1,4 +1,5 @@
 -- Balances of accounts, added one after another in the order of a map.
+use Rattle.society_closings.specs.Closings.{row_of_account}
 use Rattle.std.proofs.Common.{◌≡◌, ◌∙◌, ◌++◌, ◌∷◌, [], ℕ, Bool, true, false, cond, List, Some, Vec, IsPermutation, append_assoc, ap, bytes_eq, filter, map, nat_cmp, refl, subst, sym}
 use Rattle.std.proofs.lemmas.List.{append-nil, map-append}
 use Rattle.std.proofs.lemmas.List.Sorted.{IsPermutation-refl}
@@ -20,7 +21,7 @@ use Rattle.society_rows.specs.Stored.{AreNumbered, KeepsOthers, rows_in, values_
 use Rattle.society_book.specs.BookRows.{row_of_some}
 use Rattle.society_book.specs.DerivedRows.{is_named}
 use Rattle.society_book.proofs.lemmas.rows_alike.KeyRows.{either_way}
-use Rattle.book_audit.specs.Balances.{balance_row, row_of_account}
+use Rattle.book_audit.specs.Balances.{balance_row}
 use Rattle.book_audit.specs.declared.totals.Totals.{Totals}
 use Rattle.book_audit.proofs.lemmas.balances.BalanceRows.{in_order}
 use Rattle.book_derivation.specs.Money.{AddsBalance, WritesBalances}

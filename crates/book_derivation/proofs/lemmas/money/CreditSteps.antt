@@ -28,9 +28,9 @@ use Rattle.society_closings.specs.Blamed.{CannotPayAmong}
 use Rattle.society_closings.specs.Closings.{ListsOrder, PaysAmong, is_reported}
 use Rattle.society_closings.specs.CutWorks.{IsListed, wants_for}
 use Rattle.society_closings.specs.declared.pool_works.PoolWorks.{PoolWorks}
-use Rattle.book_audit.specs.Balances.{ComesTo}
+use Rattle.book_audit.specs.Balances.{AreTotalsOf}
 use Rattle.book_audit.specs.Credits.{credit_lines}
-use Rattle.book_audit.specs.Paying.{AreReachedIn, CannotPayAll, ListsAll, credits_by}
+use Rattle.book_audit.specs.Paying.{AreReachedIn, CannotPayAll, ListsForAll, credits_by}
 use Rattle.book_audit.specs.declared.pool_orders.ClosedPool.{ClosedPool}
 use Rattle.book_audit.specs.declared.totals.Totals.{Totals}
 use Rattle.book_audit.proofs.lemmas.orders.Steps.{each_here}
@@ -41,7 +41,7 @@ use Rattle.book_derivation.proofs.lemmas.Additions.{added_behind, others_on, oth
 pub record WritesSome (office : Office) (all some : List ClosedPool) (old new : Trees) (totals : Totals) : Type 0 where
   pub others : KeepsOthers layout.credits_table old new
   pub lines : (book : Book) → HoldsWorks office book old → AreReachedIn book all → IsPermutation (lines_by office book some ++ rows_in layout.credits_table old) (rows_in layout.credits_table new)
-  pub comes : (book : Book) → HoldsWorks office book old → AreReachedIn book all → ComesTo totals (credits_by office book some)
+  pub comes : (book : Book) → HoldsWorks office book old → AreReachedIn book all → AreTotalsOf totals (credits_by office book some)
 
 -- what a pool is paid by is there where but credits are written
 pub works_on : (o : Office) (b : Book) (old new : Trees) → KeepsOthers layout.credits_table old new → HoldsWorks o b old → HoldsWorks o b new
@@ -74,20 +74,20 @@ lists_on o order works old new keeps lists = (
 )
 
 -- no pool
-pub none_written : (o : Office) (all : List ClosedPool) (db : Trees) (totals : Totals) → ComesTo totals [] → WritesSome o all [] db db totals
+pub none_written : (o : Office) (all : List ClosedPool) (db : Trees) (totals : Totals) → AreTotalsOf totals [] → WritesSome o all [] db db totals
 none_written o all db totals comes = record {
   others = others_same layout.credits_table db;
   lines = λ book works reached. IsPermutation-refl (rows_in layout.credits_table db);
   comes = λ book works reached. comes;
 }
 
-module _ (o : Office) (closed : List ClosedPool) (works : PoolWorks) (i : ℕ) (one : ClosedPool) (within : i < length closed) (is : one ≡ get_or closed i one) (old mid : Trees) (before : Totals) (listed : ListsAll o closed old works) (so_far : WritesSome o closed (take i closed) old mid before) where
+module _ (o : Office) (closed : List ClosedPool) (works : PoolWorks) (i : ℕ) (one : ClosedPool) (within : i < length closed) (is : one ≡ get_or closed i one) (old mid : Trees) (before : Totals) (listed : ListsForAll o closed old works) (so_far : WritesSome o closed (take i closed) old mid before) where
   -- what a pool looks for is listed still
   here : ListsOrder o one.order mid works
   here = lists_on o one.order works old mid so_far.others (each_here (λ (c : ClosedPool). ListsOrder o c.order old works) closed i one within is listed)
 
   -- one pool more
-  pub some_more : (after : Totals) (new : Trees) (credits : List Credit) → WritesPool o one.pool one.order works mid new credits → ((done : List Credit) → ComesTo before done → ComesTo after (done ++ credits)) → WritesSome o closed (take (i + 1) closed) old new after
+  pub some_more : (after : Totals) (new : Trees) (credits : List Credit) → WritesPool o one.pool one.order works mid new credits → ((done : List Credit) → AreTotalsOf before done → AreTotalsOf after (done ++ credits)) → WritesSome o closed (take (i + 1) closed) old new after
   some_more after new credits writes adds = record {
     others = others_on layout.credits_table old mid new so_far.others writes.adds.others;
     lines = λ book held reached.
@@ -104,7 +104,7 @@ module _ (o : Office) (closed : List ClosedPool) (works : PoolWorks) (i : ℕ) (
         let whole : credits_by o book (take i closed) ++ credits ≡ credits_by o book (take (i + 1) closed) =
         ap (λ (l : List Credit). credits_by o book (take i closed) ++ l) (its ∙ sym (append-nil (credits_of o book one.order)))
         ∙ sym (flat_map-append (λ (c : ClosedPool). credits_of o book c.order) (take i closed) (one ∷ [])) ∙ ap (credits_by o book) (sym next) in
-        subst (ComesTo after) whole (adds (credits_by o book (take i closed)) (so_far.comes book held reached));
+        subst (AreTotalsOf after) whole (adds (credits_by o book (take i closed)) (so_far.comes book held reached));
   }
     where
       next : take (i + 1) closed ≡ take i closed ++ one ∷ []

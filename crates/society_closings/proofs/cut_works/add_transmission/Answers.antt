@@ -1,4 +1,4 @@
-use Rattle.std.proofs.Common.{[], IfSome, List, ℕ, Ok, Option, subst, sym, unwrap_or, Err}
+use Rattle.std.proofs.Common.{[], IfSome, List, ℕ, Ok, Option, option_map, subst, sym, unwrap_or, Err}
 use Rattle.std.specs.Prelude.{Vec}
 use Rattle.std.specs.declared.alloc.Global.{Global}
 use Rattle.cwr_files.specs.Contents.{transactions_of, transmission_in}
@@ -12,7 +12,7 @@ use Rattle.society_closings.proofs.lemmas.cuts.FaultLemmas.{errs_memory}
 use Rattle.society_closings.proofs.lemmas.cuts.Weighed.{weighed_adds}
 use Rattle.society_closings.specs.Blamed.{LackNumber}
 use Rattle.society_closings.specs.CutWorks.{works_chosen}
-use Rattle.society_closings.specs.Weighing.{WeighsMore}
+use Rattle.society_closings.specs.Weighing.{LendsVersions}
 use Rattle.society_book.specs.Readable.{ShowTransmission}
 use Rattle.society_core.specs.Book.{body_at}
 use Rattle.society_core.specs.Candidates.{AddsCandidates, transactions_sent}
@@ -74,7 +74,7 @@ returns-in-Some-clause-looks g c =
     nothing old (Ok tt) _
     (λ b holds lent within right. chosen_adds o b key of_these chosen right (holders_of kind o) n old_list new_list within
     (weighed_adds kind o of_these key.sender chosen n (transactions_sent b key.sender n) versions old_list new_list
-    (subst (λ found. IfSome found (λ vs. WeighsMore kind o of_these key.sender 0 (transactions_sent b key.sender n) [] vs.now)) c.in-Some.is (c.versions_lent.ensures kind o of_these old.now.trees b lent holds))
+    (subst (λ found. IfSome found (λ vs. LendsVersions (option_map (λ w. w.now) c.args.weighed) (record { sender = key.sender; number = n }) vs.now)) c.in-Some.is c.versions_lent.ensures kind o of_these old.now.trees b lent holds)
     c.in_ok-add_weighed.ensures))
 
 pub returns-in_err-add_weighed-clause-err : goal.returns-in_err-add_weighed-clause-err

@@ -1,6 +1,5 @@
-use Rattle.std.proofs.Common.{◌≡◌, ◌∙◌, ◌+◌, ◌<◌, ◌++◌, ℕ, List, ◌∷◌, [], get_or, length, slice_get, Some, Bool, if◌then◌else◌, take, true, false, true≢false, sym, ap, subst, arith, append-nil, length-append}
+use Rattle.std.proofs.Common.{◌≡◌, ◌∙◌, ◌+◌, ◌<◌, ◌++◌, ◌∷◌, [], get_or, length, slice_get, Bool, if◌then◌else◌, take, true≢false, sym, ap, arith, append-nil, length-append}
 use Rattle.std.proofs.lemmas.Bool.{eqb-true}
-use Rattle.sqlite_schema.specs.declared.schema.Index.{Index}
 use Rattle.society_rows.specs.Shapes.{guard_shaped}
 use Rattle.society_rows.proofs.lemmas.definitions.Laid.{before, before_next, count_is, few_before, guard_there, guards_by, guards_next, next_by, one_index, rest_is, table_there, tables_next, whole}
 use Rattle.society_rows.proofs.finding.is_made_of.Goals.{then-is_guarded+else-not-has_guard, else-is_guarded}

@@ -7,7 +7,7 @@ use Rattle.society_rows.specs.declared.new_rows.NewRows.TheVariants as new
 use Rattle.society_rows.specs.declared.tables.TableName.{TableName}
 use Rattle.society_rows.specs.declared.tables.TableName.TheVariants as name
 use Rattle.society_rows.specs.Layout.{written_out, mechanical_pools}
-use Rattle.society_rows.specs.NewRows.{added, insert_text}
+use Rattle.society_rows.specs.NewRows.{rows_added, insert_text}
 use Rattle.society_rows.specs.TableNames.{table_called}
 use Rattle.society_rows.proofs.lemmas.changes.Casts.{cast_null, cast_int}
 use Rattle.society_rows.proofs.lemmas.definitions.FirstTables.{place}
@@ -30,7 +30,7 @@ settled name.Balances = record { refers = λ _ _. []; listed = λ _ _. refl; unc
 settled name.SegmentEnds = record { refers = λ _ _. []; listed = λ _ _. refl; uncounted = refl; unstamped = refl }
 settled name.MechanicalPools = record { refers = λ _ _. mechanical_pools.references; listed = λ _ _. refl; uncounted = refl; unstamped = refl }
 
-pub inserted : (rows : NewRows) → IsInsert (table_called (added rows).table) (place (added rows).table) (insert_text rows) (added rows).rows
+pub inserted : (rows : NewRows) → IsInsert (table_called (rows_added rows).table) (place (rows_added rows).table) (insert_text rows) (rows_added rows).rows
 unfolding understood everything written_out
 inserted (new.Office row) = record { is = λ _ _. refl; given = refl; stores = (λ rows. simp (cast_null, cast_int), tt) }
 inserted (new.Transmission row) = record { is = λ _ _. refl; given = refl; stores = (λ rows. simp (cast_null, cast_int), tt) }

@@ -3,7 +3,7 @@ use Rattle.std.proofs.Common.{◌≡◌, ◌⊎◌, ◌∙◌, ℕ, zero, suc, �
 use Rattle.std.specs.List.{AllByRecursion, fold}
 use Rattle.std.specs.List.{range_with_len}
 use Rattle.std.proofs.lemmas.List.FromFn.{get_or-map-range_with_len}
-use Rattle.std.proofs.lemmas.List.{get_or-map, length-take-le, take-take, take-append-drop, take_more}
+use Rattle.std.proofs.lemmas.List.{get_or-map, length-take-le, take-take, take-append-drop}
 use Rattle.sqlite_schema.specs.declared.schema.Index.{Index}
 use Rattle.sqlite_schema.specs.declared.schema.Reference.{Reference}
 use Rattle.sqlite_schema.specs.declared.schema.Schema.{Schema}

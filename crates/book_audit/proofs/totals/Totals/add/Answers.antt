@@ -1,7 +1,8 @@
+use Rattle.society_closings.specs.Closings.{row_of_account}
 use Rattle.std.proofs.Common.{◌≡◌, ◌∙◌, ◌+◌, ◌++◌, ◌∷◌, [], List, ap, append_assoc, subst, sym, take}
 use Rattle.std.proofs.lemmas.List.{take_more}
 use Rattle.pool_split.specs.declared.claim.Credit.{Credit}
-use Rattle.book_audit.specs.Balances.{row_by_units, row_of_account}
+use Rattle.book_audit.specs.Balances.{row_by_units}
 use Rattle.book_audit.proofs.lemmas.balances.Comings.{comes_more}
 use Rattle.book_audit.proofs.totals.Totals.add.Goals as goal
 

@@ -1,8 +1,8 @@
 -- What accounts have come to by the credits so far.
 use Rattle.std.proofs.Common.{List, ◌++◌, take}
 use Rattle.pool_split.specs.declared.claim.Credit.{Credit}
-use Rattle.book_audit.specs.Balances.{ComesTo}
+use Rattle.book_audit.specs.Balances.{AreTotalsOf}
 use Rattle.book_audit.proofs.totals.Totals.add.Given as goal
 
 abbrev pub invariant-loop-credit : goal.invariant-loop-credit
-invariant-loop-credit l = (done : List Credit) → ComesTo l.fn.self done → ComesTo l.self (done ++ take l.credit-index l.credits)
+invariant-loop-credit l = (done : List Credit) → AreTotalsOf l.fn.self done → AreTotalsOf l.self (done ++ take l.credit-index l.credits)
