@@ -20,14 +20,23 @@ use Rattle.work_ids.specs.Isrc.{isrc_field_of}
 use Rattle.work_ids.specs.PartyNumber.{party_number_of}
 
 -- 1: the title is blank (profile)
+abbrev pub blank_title : ℕ
+blank_title = 1
+
 abbrev pub has_blank_title : Transaction → Bool
 has_blank_title transaction = is_blank (title_of transaction)
 
 -- 2: the work number is blank or not printable ASCII (profile)
+abbrev pub no_work_number : ℕ
+no_work_number = 2
+
 abbrev pub has_no_work_number : Transaction → Bool
 has_no_work_number transaction = not (is_ok (number_of_work transaction))
 
 -- 3: the ISWC field is neither blank nor a right ISWC (profile)
+abbrev pub wrong_iswc : ℕ
+wrong_iswc = 3
+
 abbrev pub has_wrong_iswc : Transaction → Bool
 has_wrong_iswc transaction = not (is_ok (iswc_of_work transaction))
 
@@ -46,6 +55,9 @@ is_row_with_wrong_share None = false
 is_row_with_wrong_share (Some row) = are_wrong_shares row.shares
 
 -- 4: a share in SPU, OPU, SPT, SWR, OWR or SWT is neither blank nor five digits, or is over 10000 (profile)
+abbrev pub wrong_share : ℕ
+wrong_share = 4
+
 abbrev pub has_wrong_share : Record → Bool
 has_wrong_share r = is_party_with_wrong_share (party_in r) || is_row_with_wrong_share (row_in r)
 
@@ -59,6 +71,9 @@ exceed shares =
     nat_lt sum_limit (sum (map (λ s. s.performing) shares)) || nat_lt sum_limit (sum (map (λ s. s.mechanical) shares)) || nat_lt sum_limit (sum (map (λ s. s.synchronization) shares))
 
 -- 5: the ownership shares of a right, of all SPU, OPU, SWR and OWR, add up to more than the limit (profile)
+abbrev pub excess_of_ownership : ℕ
+excess_of_ownership = 5
+
 abbrev pub owns_too_much : List Record → Bool
 owns_too_much records = exceed (map owned (interests records))
 
@@ -68,16 +83,25 @@ is_row_without_party before None = false
 is_row_without_party before (Some row) = not (list_any (is_interested_party row.side row.number) before)
 
 -- 6: an SPT has no SPU, or an SWT no SWR, with its IP # before it in the transaction (profile)
+abbrev pub row_without_party : ℕ
+row_without_party = 6
+
 abbrev pub has_row_without_party : List Record → List Record → Bool
 has_row_without_party before [] = false
 has_row_without_party before (r ∷ more) = is_row_without_party before (row_in r) || has_row_without_party (before ++ r ∷ []) more
 
 -- 7: a PWR names a publisher IP # that is not blank and that no SPU of the transaction has (profile)
+abbrev pub no_publisher : ℕ
+no_publisher = 7
+
 abbrev pub names_no_publisher : List Record → Record → Bool
 names_no_publisher records (kind.PublisherForWriter r) = not (is_blank r.publisher_party) && not (list_any (is_interested_party side.Publisher r.publisher_party) records)
 names_no_publisher records _ = false
 
 -- 8: the collection shares of a right at the office, over all holders, add up to more than the limit (profile)
+abbrev pub excess_of_collection : ℕ
+excess_of_collection = 8
+
 abbrev pub collects_too_much : Office → List Record → Bool
 collects_too_much office records = exceed (map (collected office) (interests records))
 
@@ -87,10 +111,16 @@ is_party_with_wrong_ipi None = false
 is_party_with_wrong_ipi (Some party) = not (is_ok (ipi_field_of party.ipi_name))
 
 -- 9: an IPI name number in SPU, OPU, SWR or OWR is not all digits after trimming (profile)
+abbrev pub wrong_ipi : ℕ
+wrong_ipi = 9
+
 abbrev pub has_wrong_ipi : Record → Bool
 has_wrong_ipi r = is_party_with_wrong_ipi (party_in r)
 
 -- 10: the ISRC of a REC is neither blank nor a right ISRC (profile)
+abbrev pub wrong_isrc : ℕ
+wrong_isrc = 10
+
 abbrev pub has_wrong_isrc : Record → Bool
 has_wrong_isrc (kind.Recording r) = not (is_ok (isrc_field_of r.isrc))
 has_wrong_isrc _ = false
@@ -105,23 +135,26 @@ party_numbers (kind.PublisherForWriter r) = r.publisher_party ∷ r.writer_party
 party_numbers _ = []
 
 -- 11: an IP # in SPU, OPU, SPT, SWR, OWR, SWT or PWR is not printable ASCII (profile)
+abbrev pub wrong_party_number : ℕ
+wrong_party_number = 11
+
 abbrev pub has_wrong_number : Record → Bool
 has_wrong_number r = list_any (λ number. not (is_ok (party_number_of number))) (party_numbers r)
 
 -- the sentences on a transaction, in the order of their faults (profile)
 abbrev pub sentences : Office → Transaction → List Sentence
 sentences office transaction =
-    sentence 1 (has_blank_title transaction)
-    ∷ sentence 2 (has_no_work_number transaction)
-    ∷ sentence 3 (has_wrong_iswc transaction)
-    ∷ sentence 4 (list_any has_wrong_share transaction.records)
-    ∷ sentence 5 (owns_too_much transaction.records)
-    ∷ sentence 6 (has_row_without_party [] transaction.records)
-    ∷ sentence 7 (list_any (names_no_publisher transaction.records) transaction.records)
-    ∷ sentence 8 (collects_too_much office transaction.records)
-    ∷ sentence 9 (list_any has_wrong_ipi transaction.records)
-    ∷ sentence 10 (list_any has_wrong_isrc transaction.records)
-    ∷ sentence 11 (list_any has_wrong_number transaction.records)
+    sentence blank_title (has_blank_title transaction)
+    ∷ sentence no_work_number (has_no_work_number transaction)
+    ∷ sentence wrong_iswc (has_wrong_iswc transaction)
+    ∷ sentence wrong_share (list_any has_wrong_share transaction.records)
+    ∷ sentence excess_of_ownership (owns_too_much transaction.records)
+    ∷ sentence row_without_party (has_row_without_party [] transaction.records)
+    ∷ sentence no_publisher (list_any (names_no_publisher transaction.records) transaction.records)
+    ∷ sentence excess_of_collection (collects_too_much office transaction.records)
+    ∷ sentence wrong_ipi (list_any has_wrong_ipi transaction.records)
+    ∷ sentence wrong_isrc (list_any has_wrong_isrc transaction.records)
+    ∷ sentence wrong_party_number (list_any has_wrong_number transaction.records)
     ∷ []
 
 -- the least fault of a transaction, if it has one (profile)

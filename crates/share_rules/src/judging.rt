@@ -23,7 +23,7 @@ const WRONG_ISWC: u8 = 3;
 const WRONG_SHARE: u8 = 4;
 
 /// Fault: the ownership shares of a right add up to more than the limit (profile).
-const OWNS_TOO_MUCH: u8 = 5;
+const EXCESS_OF_OWNERSHIP: u8 = 5;
 
 /// Fault: a territory row has no party of its side with its number before it (profile).
 const ROW_WITHOUT_PARTY: u8 = 6;
@@ -32,7 +32,7 @@ const ROW_WITHOUT_PARTY: u8 = 6;
 const NO_PUBLISHER: u8 = 7;
 
 /// Fault: the collection shares of a right at the office add up to more than the limit (profile).
-const COLLECTS_TOO_MUCH: u8 = 8;
+const EXCESS_OF_COLLECTION: u8 = 8;
 
 /// Fault: an IPI name number is not all digits (profile).
 const WRONG_IPI: u8 = 9;
@@ -41,7 +41,7 @@ const WRONG_IPI: u8 = 9;
 const WRONG_ISRC: u8 = 10;
 
 /// Fault: a number of a party is not printable ASCII (profile).
-const WRONG_NUMBER: u8 = 11;
+const WRONG_PARTY_NUMBER: u8 = 11;
 
 /// The least fault of a transaction at an office, none where it is clean (profile). It takes no memory but some stack,
 /// and goes through the records at most three times for each 2,048 of them, beside once for each other fault.
@@ -63,7 +63,7 @@ pub fn judge(transaction: &Transaction<'_>, office: &Office) -> Option<u8>
         return Some(WRONG_SHARE);
     }
     if owns_too_much(records) {
-        return Some(OWNS_TOO_MUCH);
+        return Some(EXCESS_OF_OWNERSHIP);
     }
     if has_row_without_party(records) {
         return Some(ROW_WITHOUT_PARTY);
@@ -72,7 +72,7 @@ pub fn judge(transaction: &Transaction<'_>, office: &Office) -> Option<u8>
         return Some(NO_PUBLISHER);
     }
     if collects_too_much(records, office) {
-        return Some(COLLECTS_TOO_MUCH);
+        return Some(EXCESS_OF_COLLECTION);
     }
     if have_wrong_ipi(records) {
         return Some(WRONG_IPI);
@@ -81,7 +81,7 @@ pub fn judge(transaction: &Transaction<'_>, office: &Office) -> Option<u8>
         return Some(WRONG_ISRC);
     }
     if have_wrong_number(records) {
-        return Some(WRONG_NUMBER);
+        return Some(WRONG_PARTY_NUMBER);
     }
     None
 }

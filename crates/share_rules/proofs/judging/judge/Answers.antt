@@ -1,10 +1,10 @@
 use Rattle.std.proofs.Common.{sym, ◌∙◌}
-use Rattle.share_rules.proofs.lemmas.First.{fault_9, fault_11}
+use Rattle.share_rules.proofs.lemmas.First.{wrong_ipi_is_first, wrong_party_number_is_first}
 use Rattle.share_rules.proofs.judging.judge.Goals as goal
 
 pub returns-then-have_wrong_ipi : goal.returns-then-have_wrong_ipi
 returns-then-have_wrong_ipi c =
-    fault_9 c.args.office.now c.args.transaction.now c.as_slice-records.result.now c.as_slice-records.ensures
+    wrong_ipi_is_first c.args.office.now c.args.transaction.now c.as_slice-records.result.now c.as_slice-records.ensures
     (sym c.has_blank_title.ensures ∙ c.if-has_blank_title.false)
     (sym c.has_no_work_number.ensures ∙ c.if-has_no_work_number.false)
     (sym c.has_wrong_iswc.ensures ∙ c.if-has_wrong_iswc.false)
@@ -17,7 +17,7 @@ returns-then-have_wrong_ipi c =
 
 pub returns-then-have_wrong_number : goal.returns-then-have_wrong_number
 returns-then-have_wrong_number c =
-    fault_11 c.args.office.now c.args.transaction.now c.as_slice-records.result.now c.as_slice-records.ensures
+    wrong_party_number_is_first c.args.office.now c.args.transaction.now c.as_slice-records.result.now c.as_slice-records.ensures
     (sym c.has_blank_title.ensures ∙ c.if-has_blank_title.false)
     (sym c.has_no_work_number.ensures ∙ c.if-has_no_work_number.false)
     (sym c.has_wrong_iswc.ensures ∙ c.if-has_wrong_iswc.false)
