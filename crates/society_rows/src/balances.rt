@@ -33,6 +33,13 @@ pub(crate) const BALANCES: TableShape<'static> = TableShape {
     rowids: "SELECT rowid FROM balances",
 };
 
+/// What adds a row.
+pub(crate) const INSERT: &str = "INSERT INTO balances (account, units) VALUES (?1, ?2)";
+
+/// The query for the balance of an account.
+pub(crate) const OF_ACCOUNT: &str =
+    "SELECT account, units FROM balances WHERE account = ?1 ORDER BY account";
+
 /// What an account has: its units of money over all pools.
 #[derive(Clone, Copy, Debug)]
 pub struct BalanceRow<'a> {

@@ -34,6 +34,21 @@ pub(crate) const CREDITS: TableShape<'static> = TableShape {
     rowids: "SELECT rowid FROM credits",
 };
 
+/// What adds a row.
+pub(crate) const INSERT: &str =
+    "INSERT INTO credits (pool, line, isrc, account, units) VALUES (?1, ?2, ?3, ?4, ?5)";
+
+/// What adds two rows.
+pub(crate) const INSERT_TWO: &str =
+    "INSERT INTO credits (pool, line, isrc, account, units) VALUES (?1, ?2, ?3, ?4, ?5), (?6, ?7, ?8, ?9, ?10)";
+
+/// The query for the credits of a pool.
+pub(crate) const OF_POOL: &str =
+    "SELECT pool, line, isrc, account, units FROM credits WHERE pool = ?1 ORDER BY pool, line";
+
+/// The query for the first column of every row.
+pub(crate) const FIRST_COLUMN: &str = "SELECT pool FROM credits";
+
 /// A credit of a pool: its line from 0, its ISRC or `-`, its account, and its units of money.
 #[derive(Clone, Copy, Debug)]
 pub struct CreditRow<'a> {

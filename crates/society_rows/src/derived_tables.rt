@@ -2,6 +2,8 @@
 ghost use Rattle.std.specs.Prelude.{◌≡◌};
 ghost use Rattle.society_rows.specs.FirstColumns.{first_column_text};
 
+use crate::{credits, fronts, recordings, verdicts, versions};
+
 /// A table of what is derived of senders' lines, or of pools; its first column is the sender, or the pool.
 #[derive(Clone, Copy)]
 pub enum DerivedTable {
@@ -18,10 +20,10 @@ pub(crate) fn first_column_of(table: DerivedTable) -> &'static str
     ensures { result.now ≡ first_column_text table }
 {
     match table {
-        DerivedTable::Fronts => "SELECT sender FROM fronts",
-        DerivedTable::Verdicts => "SELECT sender FROM verdicts",
-        DerivedTable::Versions => "SELECT sender FROM versions",
-        DerivedTable::Recordings => "SELECT sender FROM recordings",
-        DerivedTable::Credits => "SELECT pool FROM credits",
+        DerivedTable::Fronts => fronts::FIRST_COLUMN,
+        DerivedTable::Verdicts => verdicts::FIRST_COLUMN,
+        DerivedTable::Versions => versions::FIRST_COLUMN,
+        DerivedTable::Recordings => recordings::FIRST_COLUMN,
+        DerivedTable::Credits => credits::FIRST_COLUMN,
     }
 }

@@ -30,6 +30,13 @@ pub(crate) const FRONTS: TableShape<'static> = TableShape {
     rowids: "SELECT rowid FROM fronts",
 };
 
+/// The query for the front of a sender.
+pub(crate) const OF_SENDER: &str =
+    "SELECT sender, front, works FROM fronts WHERE sender = ?1 ORDER BY sender";
+
+/// The query for the first column of every row.
+pub(crate) const FIRST_COLUMN: &str = "SELECT sender FROM fronts";
+
 /// How far a sender's transmissions came: the greatest number up to which all are there, and its accepted works up
 /// to it.
 #[derive(Clone, Copy, Debug)]

@@ -29,6 +29,13 @@ pub(crate) const MECHANICAL_POOLS: TableShape<'static> = TableShape {
     rowids: "SELECT rowid FROM mechanical_pools",
 };
 
+/// What adds a row.
+pub(crate) const INSERT: &str = "INSERT INTO mechanical_pools (pool) VALUES (?1)";
+
+/// The query for a row by the number of its pool.
+pub(crate) const OF_NUMBER: &str =
+    "SELECT pool FROM mechanical_pools WHERE pool = ?1 ORDER BY pool";
+
 /// A pool of mechanical rights, by its number; any other pool is of performing rights.
 #[derive(Clone, Copy, Debug)]
 pub struct MechanicalPoolRow {

@@ -11,6 +11,8 @@ use crate::statement::run;
 use crate::{
     BalanceRow, CreditRow, MechanicalPoolRow, OfficeRow, PoolCutRow, PoolReturnRow, PoolRow,
     RecordingRow, ReturnRow, RowFault, SegmentEndRow, TransmissionRow, VerdictRow, VersionRow,
+    balances, credits, mechanical_pools, office, pool_cuts, pool_returns, pools, recordings,
+    returns, segment_ends, transmissions, verdicts, versions,
 };
 use sqlite::{Alter, Transaction};
 use sqlite_value::value::ValueRef;
@@ -44,53 +46,25 @@ fn insert_of(rows: NewRows<'_>) -> &'static str
     ensures { result.now ≡ insert_text rows.entry }
 {
     match rows {
-        NewRows::Office(_) => {
-            "INSERT INTO office (one, layout, society, territory, name) VALUES (?1, ?2, ?3, ?4, ?5)"
-        }
-        NewRows::Transmission(_) => {
-            "INSERT INTO transmissions (sender, number, body) VALUES (?1, ?2, ?3)"
-        }
-        NewRows::Return(_) => "INSERT INTO returns (reporter, number, body) VALUES (?1, ?2, ?3)",
-        NewRows::Pool(_) => "INSERT INTO pools (pool, amount) VALUES (?1, ?2)",
-        NewRows::PoolCut(_) => "INSERT INTO pool_cuts (pool, sender, number) VALUES (?1, ?2, ?3)",
-        NewRows::PoolCuts(_, _) => {
-            "INSERT INTO pool_cuts (pool, sender, number) VALUES (?1, ?2, ?3), (?4, ?5, ?6)"
-        }
-        NewRows::PoolReturn(_) => {
-            "INSERT INTO pool_returns (reporter, number, pool) VALUES (?1, ?2, ?3)"
-        }
-        NewRows::PoolReturns(_, _) => {
-            "INSERT INTO pool_returns (reporter, number, pool) VALUES (?1, ?2, ?3), (?4, ?5, ?6)"
-        }
-        NewRows::Verdict(_) => {
-            "INSERT INTO verdicts (sender, number, place, fault, ordinal, revision) VALUES (?1, ?2, ?3, ?4, ?5, ?6)"
-        }
-        NewRows::Verdicts(_, _) => {
-            "INSERT INTO verdicts (sender, number, place, fault, ordinal, revision) VALUES (?1, ?2, ?3, ?4, ?5, ?6), (?7, ?8, ?9, ?10, ?11, ?12)"
-        }
-        NewRows::Version(_) => {
-            "INSERT INTO versions (sender, work, revision, number, place, ordinal) VALUES (?1, ?2, ?3, ?4, ?5, ?6)"
-        }
-        NewRows::Versions(_, _) => {
-            "INSERT INTO versions (sender, work, revision, number, place, ordinal) VALUES (?1, ?2, ?3, ?4, ?5, ?6), (?7, ?8, ?9, ?10, ?11, ?12)"
-        }
-        NewRows::Recording(_) => {
-            "INSERT INTO recordings (sender, work, revision, isrc) VALUES (?1, ?2, ?3, ?4)"
-        }
-        NewRows::Recordings(_, _) => {
-            "INSERT INTO recordings (sender, work, revision, isrc) VALUES (?1, ?2, ?3, ?4), (?5, ?6, ?7, ?8)"
-        }
-        NewRows::Credit(_) => {
-            "INSERT INTO credits (pool, line, isrc, account, units) VALUES (?1, ?2, ?3, ?4, ?5)"
-        }
-        NewRows::Credits(_, _) => {
-            "INSERT INTO credits (pool, line, isrc, account, units) VALUES (?1, ?2, ?3, ?4, ?5), (?6, ?7, ?8, ?9, ?10)"
-        }
-        NewRows::Balance(_) => "INSERT INTO balances (account, units) VALUES (?1, ?2)",
-        NewRows::SegmentEnd(_) => {
-            "INSERT INTO segment_ends (sender, segment, last, next) VALUES (?1, ?2, ?3, ?4)"
-        }
-        NewRows::MechanicalPool(_) => "INSERT INTO mechanical_pools (pool) VALUES (?1)",
+        NewRows::Office(_) => office::INSERT,
+        NewRows::Transmission(_) => transmissions::INSERT,
+        NewRows::Return(_) => returns::INSERT,
+        NewRows::Pool(_) => pools::INSERT,
+        NewRows::PoolCut(_) => pool_cuts::INSERT,
+        NewRows::PoolCuts(_, _) => pool_cuts::INSERT_TWO,
+        NewRows::PoolReturn(_) => pool_returns::INSERT,
+        NewRows::PoolReturns(_, _) => pool_returns::INSERT_TWO,
+        NewRows::Verdict(_) => verdicts::INSERT,
+        NewRows::Verdicts(_, _) => verdicts::INSERT_TWO,
+        NewRows::Version(_) => versions::INSERT,
+        NewRows::Versions(_, _) => versions::INSERT_TWO,
+        NewRows::Recording(_) => recordings::INSERT,
+        NewRows::Recordings(_, _) => recordings::INSERT_TWO,
+        NewRows::Credit(_) => credits::INSERT,
+        NewRows::Credits(_, _) => credits::INSERT_TWO,
+        NewRows::Balance(_) => balances::INSERT,
+        NewRows::SegmentEnd(_) => segment_ends::INSERT,
+        NewRows::MechanicalPool(_) => mechanical_pools::INSERT,
     }
 }
 

@@ -31,6 +31,10 @@ pub(crate) const OFFICE: TableShape<'static> = TableShape {
     rowids: "SELECT rowid FROM office",
 };
 
+/// What adds a row.
+pub(crate) const INSERT: &str =
+    "INSERT INTO office (one, layout, society, territory, name) VALUES (?1, ?2, ?3, ?4, ?5)";
+
 /// The layout that is written: 3, the book, what is derived from it, where segments end, and pools of mechanical rights.
 pub const LAYOUT: u32 = 3;
 

@@ -39,6 +39,17 @@ pub(crate) const POOL_CUTS: TableShape<'static> = TableShape {
     rowids: "SELECT rowid FROM pool_cuts",
 };
 
+/// What adds a row.
+pub(crate) const INSERT: &str = "INSERT INTO pool_cuts (pool, sender, number) VALUES (?1, ?2, ?3)";
+
+/// What adds two rows.
+pub(crate) const INSERT_TWO: &str =
+    "INSERT INTO pool_cuts (pool, sender, number) VALUES (?1, ?2, ?3), (?4, ?5, ?6)";
+
+/// The query for the cut of a pool.
+pub(crate) const OF_POOL: &str =
+    "SELECT pool, sender, number FROM pool_cuts WHERE pool = ?1 ORDER BY pool, sender";
+
 /// How far a pool goes for a sender: the number of the last transmission that counts.
 #[derive(Clone, Copy, Debug)]
 pub struct PoolCutRow<'a> {

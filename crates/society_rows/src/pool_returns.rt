@@ -39,6 +39,22 @@ pub(crate) const POOL_RETURNS: TableShape<'static> = TableShape {
     rowids: "SELECT rowid FROM pool_returns",
 };
 
+/// What adds a row.
+pub(crate) const INSERT: &str =
+    "INSERT INTO pool_returns (reporter, number, pool) VALUES (?1, ?2, ?3)";
+
+/// What adds two rows.
+pub(crate) const INSERT_TWO: &str =
+    "INSERT INTO pool_returns (reporter, number, pool) VALUES (?1, ?2, ?3), (?4, ?5, ?6)";
+
+/// The query for the pool that pays a return.
+pub(crate) const OF_KEY: &str =
+    "SELECT reporter, number, pool FROM pool_returns WHERE reporter = ?1 AND number = ?2 ORDER BY reporter, number";
+
+/// The query for the returns that a pool pays.
+pub(crate) const OF_POOL: &str =
+    "SELECT reporter, number, pool FROM pool_returns WHERE pool = ?1 ORDER BY reporter, number";
+
 /// Which pool pays a return.
 #[derive(Clone, Copy, Debug)]
 pub struct PoolReturnRow<'a> {

@@ -26,6 +26,12 @@ pub(crate) const POOLS: TableShape<'static> = TableShape {
     rowids: "SELECT rowid FROM pools",
 };
 
+/// What adds a row.
+pub(crate) const INSERT: &str = "INSERT INTO pools (pool, amount) VALUES (?1, ?2)";
+
+/// The query for a pool by its number.
+pub(crate) const OF_NUMBER: &str = "SELECT pool, amount FROM pools WHERE pool = ?1 ORDER BY pool";
+
 /// A pool: its number and its amount in units of money.
 #[derive(Clone, Copy, Debug)]
 pub struct PoolRow {

@@ -10,7 +10,10 @@ ghost use Rattle.society_rows.specs.Between.{between, within};
 use crate::derived_tables::{DerivedTable, first_column_of};
 use crate::statement::select;
 use crate::tables::shape_of;
-use crate::{Idle, RowFault, TableName};
+use crate::{
+    Idle, RowFault, TableName, balances, credits, fronts, mechanical_pools, pool_cuts,
+    pool_returns, pools, recordings, returns, segment_ends, transmissions, verdicts, versions,
+};
 use sqlite::types::ToSql;
 use sqlite::{Alter, Row, Transaction};
 use sqlite_value::value::ValueRef;
@@ -74,67 +77,28 @@ fn query_of(question: Question<'_>) -> &'static str
 {
     match question {
         Question::Office => shape_of(TableName::Office).listing,
-        Question::Front(_) => {
-            "SELECT sender, front, works FROM fronts WHERE sender = ?1 ORDER BY sender"
-        }
-        Question::Transmission(_, _) => {
-            "SELECT sender, number, body FROM transmissions WHERE sender = ?1 AND number = ?2 ORDER BY sender, number"
-        }
-        Question::NumbersAbove(_, _) => {
-            "SELECT sender, number FROM transmissions WHERE sender = ?1 AND number > ?2 ORDER BY sender, number"
-        }
-        Question::NumbersBetween(_, _, _) => {
-            "SELECT sender, number FROM transmissions WHERE sender = ?1 AND number > ?2 AND number < ?3 ORDER BY sender, number"
-        }
-        Question::Ends(_) => {
-            "SELECT sender, segment, last, next FROM segment_ends WHERE sender = ?1 ORDER BY sender, segment"
-        }
-        Question::Return(_, _) => {
-            "SELECT reporter, number, body FROM returns WHERE reporter = ?1 AND number = ?2 ORDER BY reporter, number"
-        }
-        Question::HasReturn(_, _) => {
-            "SELECT reporter, number FROM returns WHERE reporter = ?1 AND number = ?2 ORDER BY reporter, number"
-        }
-        Question::TransmissionKeys => {
-            "SELECT sender, number FROM transmissions ORDER BY sender, number"
-        }
-        Question::ReturnKeys => "SELECT reporter, number FROM returns ORDER BY reporter, number",
-        Question::Pool(_) => "SELECT pool, amount FROM pools WHERE pool = ?1 ORDER BY pool",
-        Question::Mechanical(_) =>
-            "SELECT pool FROM mechanical_pools WHERE pool = ?1 ORDER BY pool",
-        Question::Cuts(_) => {
-            "SELECT pool, sender, number FROM pool_cuts WHERE pool = ?1 ORDER BY pool, sender"
-        }
-        Question::Payer(_, _) => {
-            "SELECT reporter, number, pool FROM pool_returns WHERE reporter = ?1 AND number = ?2 ORDER BY reporter, number"
-        }
-        Question::PaidBy(_) => {
-            "SELECT reporter, number, pool FROM pool_returns WHERE pool = ?1 ORDER BY reporter, number"
-        }
-        Question::Verdicts(_, _) => {
-            "SELECT sender, number, place, fault, ordinal, revision FROM verdicts WHERE sender = ?1 AND number = ?2 ORDER BY sender, number, place"
-        }
-        Question::Versions(_, _) => {
-            "SELECT sender, work, revision, number, place, ordinal FROM versions WHERE sender = ?1 AND work = ?2 ORDER BY sender, work, revision"
-        }
-        Question::LastVersion(_, _) => {
-            "SELECT sender, work, revision, number, place, ordinal FROM versions WHERE sender = ?1 AND work = ?2 ORDER BY sender DESC, work DESC, revision DESC LIMIT 1"
-        }
-        Question::SenderVerdicts(_) => {
-            "SELECT sender, number, place, fault, ordinal, revision FROM verdicts WHERE sender = ?1 ORDER BY sender, number, place"
-        }
-        Question::SenderVersions(_) => {
-            "SELECT sender, work, revision, number, place, ordinal FROM versions WHERE sender = ?1 ORDER BY sender, work, revision"
-        }
-        Question::SenderRecordings(_) => {
-            "SELECT sender, work, revision, isrc FROM recordings WHERE sender = ?1 ORDER BY sender, work, revision, isrc"
-        }
-        Question::Credits(_) => {
-            "SELECT pool, line, isrc, account, units FROM credits WHERE pool = ?1 ORDER BY pool, line"
-        }
-        Question::Balance(_) => {
-            "SELECT account, units FROM balances WHERE account = ?1 ORDER BY account"
-        }
+        Question::Front(_) => fronts::OF_SENDER,
+        Question::Transmission(_, _) => transmissions::OF_KEY,
+        Question::NumbersAbove(_, _) => transmissions::KEYS_ABOVE,
+        Question::NumbersBetween(_, _, _) => transmissions::KEYS_BETWEEN,
+        Question::Ends(_) => segment_ends::OF_SENDER,
+        Question::Return(_, _) => returns::OF_KEY,
+        Question::HasReturn(_, _) => returns::KEY,
+        Question::TransmissionKeys => transmissions::KEYS,
+        Question::ReturnKeys => returns::KEYS,
+        Question::Pool(_) => pools::OF_NUMBER,
+        Question::Mechanical(_) => mechanical_pools::OF_NUMBER,
+        Question::Cuts(_) => pool_cuts::OF_POOL,
+        Question::Payer(_, _) => pool_returns::OF_KEY,
+        Question::PaidBy(_) => pool_returns::OF_POOL,
+        Question::Verdicts(_, _) => verdicts::OF_TRANSMISSION,
+        Question::Versions(_, _) => versions::OF_WORK,
+        Question::LastVersion(_, _) => versions::LAST_OF_WORK,
+        Question::SenderVerdicts(_) => verdicts::OF_SENDER,
+        Question::SenderVersions(_) => versions::OF_SENDER,
+        Question::SenderRecordings(_) => recordings::OF_SENDER,
+        Question::Credits(_) => credits::OF_POOL,
+        Question::Balance(_) => balances::OF_ACCOUNT,
         Question::FirstColumns(table) => first_column_of(table),
     }
 }

@@ -33,6 +33,21 @@ pub(crate) const RECORDINGS: TableShape<'static> = TableShape {
     rowids: "SELECT rowid FROM recordings",
 };
 
+/// What adds a row.
+pub(crate) const INSERT: &str =
+    "INSERT INTO recordings (sender, work, revision, isrc) VALUES (?1, ?2, ?3, ?4)";
+
+/// What adds two rows.
+pub(crate) const INSERT_TWO: &str =
+    "INSERT INTO recordings (sender, work, revision, isrc) VALUES (?1, ?2, ?3, ?4), (?5, ?6, ?7, ?8)";
+
+/// The query for all recordings of a sender.
+pub(crate) const OF_SENDER: &str =
+    "SELECT sender, work, revision, isrc FROM recordings WHERE sender = ?1 ORDER BY sender, work, revision, isrc";
+
+/// The query for the first column of every row.
+pub(crate) const FIRST_COLUMN: &str = "SELECT sender FROM recordings";
+
 /// A recording of a version of a work: its ISRC.
 #[derive(Clone, Copy, Debug)]
 pub struct RecordingRow<'a> {

@@ -25,6 +25,20 @@ pub(crate) const RETURNS: TableShape<'static> = TableShape {
     rowids: "SELECT rowid FROM returns",
 };
 
+/// What adds a row.
+pub(crate) const INSERT: &str = "INSERT INTO returns (reporter, number, body) VALUES (?1, ?2, ?3)";
+
+/// The query for a return by its key.
+pub(crate) const OF_KEY: &str =
+    "SELECT reporter, number, body FROM returns WHERE reporter = ?1 AND number = ?2 ORDER BY reporter, number";
+
+/// The query for a key.
+pub(crate) const KEY: &str =
+    "SELECT reporter, number FROM returns WHERE reporter = ?1 AND number = ?2 ORDER BY reporter, number";
+
+/// The query for all keys.
+pub(crate) const KEYS: &str = "SELECT reporter, number FROM returns ORDER BY reporter, number";
+
 /// A performance return: its reporter, its number, and the bytes of its file.
 #[derive(Clone, Copy, Debug)]
 pub struct ReturnRow<'a> {

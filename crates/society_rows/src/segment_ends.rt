@@ -34,6 +34,14 @@ pub(crate) const SEGMENT_ENDS: TableShape<'static> = TableShape {
     rowids: "SELECT rowid FROM segment_ends",
 };
 
+/// What adds a row.
+pub(crate) const INSERT: &str =
+    "INSERT INTO segment_ends (sender, segment, last, next) VALUES (?1, ?2, ?3, ?4)";
+
+/// The query for the ends of a sender.
+pub(crate) const OF_SENDER: &str =
+    "SELECT sender, segment, last, next FROM segment_ends WHERE sender = ?1 ORDER BY sender, segment";
+
 /// Where a segment of a sender's numbers ends: its last number, and the year whose numbers come next. The column of a segment is -1 of the
 /// plain one, and the year of any other.
 #[derive(Clone, Copy, Debug)]

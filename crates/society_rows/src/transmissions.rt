@@ -25,6 +25,25 @@ pub(crate) const TRANSMISSIONS: TableShape<'static> = TableShape {
     rowids: "SELECT rowid FROM transmissions",
 };
 
+/// What adds a row.
+pub(crate) const INSERT: &str =
+    "INSERT INTO transmissions (sender, number, body) VALUES (?1, ?2, ?3)";
+
+/// The query for a transmission by its key.
+pub(crate) const OF_KEY: &str =
+    "SELECT sender, number, body FROM transmissions WHERE sender = ?1 AND number = ?2 ORDER BY sender, number";
+
+/// The query for the keys of a sender above a number.
+pub(crate) const KEYS_ABOVE: &str =
+    "SELECT sender, number FROM transmissions WHERE sender = ?1 AND number > ?2 ORDER BY sender, number";
+
+/// The query for the keys of a sender above one number and below another.
+pub(crate) const KEYS_BETWEEN: &str =
+    "SELECT sender, number FROM transmissions WHERE sender = ?1 AND number > ?2 AND number < ?3 ORDER BY sender, number";
+
+/// The query for all keys.
+pub(crate) const KEYS: &str = "SELECT sender, number FROM transmissions ORDER BY sender, number";
+
 /// A transmission: its sender key, its number, and the bytes of its file.
 #[derive(Clone, Copy, Debug)]
 pub struct TransmissionRow<'a> {

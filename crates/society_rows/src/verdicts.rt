@@ -35,6 +35,25 @@ pub(crate) const VERDICTS: TableShape<'static> = TableShape {
     rowids: "SELECT rowid FROM verdicts",
 };
 
+/// What adds a row.
+pub(crate) const INSERT: &str =
+    "INSERT INTO verdicts (sender, number, place, fault, ordinal, revision) VALUES (?1, ?2, ?3, ?4, ?5, ?6)";
+
+/// What adds two rows.
+pub(crate) const INSERT_TWO: &str =
+    "INSERT INTO verdicts (sender, number, place, fault, ordinal, revision) VALUES (?1, ?2, ?3, ?4, ?5, ?6), (?7, ?8, ?9, ?10, ?11, ?12)";
+
+/// The query for the verdicts of a transmission.
+pub(crate) const OF_TRANSMISSION: &str =
+    "SELECT sender, number, place, fault, ordinal, revision FROM verdicts WHERE sender = ?1 AND number = ?2 ORDER BY sender, number, place";
+
+/// The query for all verdicts of a sender.
+pub(crate) const OF_SENDER: &str =
+    "SELECT sender, number, place, fault, ordinal, revision FROM verdicts WHERE sender = ?1 ORDER BY sender, number, place";
+
+/// The query for the first column of every row.
+pub(crate) const FIRST_COLUMN: &str = "SELECT sender FROM verdicts";
+
 /// What a transaction was answered: fault 0 is accepted; ordinal and revision are 0 where it was rejected.
 #[derive(Clone, Copy, Debug)]
 pub struct VerdictRow<'a> {

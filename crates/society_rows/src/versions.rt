@@ -35,6 +35,29 @@ pub(crate) const VERSIONS: TableShape<'static> = TableShape {
     rowids: "SELECT rowid FROM versions",
 };
 
+/// What adds a row.
+pub(crate) const INSERT: &str =
+    "INSERT INTO versions (sender, work, revision, number, place, ordinal) VALUES (?1, ?2, ?3, ?4, ?5, ?6)";
+
+/// What adds two rows.
+pub(crate) const INSERT_TWO: &str =
+    "INSERT INTO versions (sender, work, revision, number, place, ordinal) VALUES (?1, ?2, ?3, ?4, ?5, ?6), (?7, ?8, ?9, ?10, ?11, ?12)";
+
+/// The query for the versions of a work.
+pub(crate) const OF_WORK: &str =
+    "SELECT sender, work, revision, number, place, ordinal FROM versions WHERE sender = ?1 AND work = ?2 ORDER BY sender, work, revision";
+
+/// The query for the last version of a work.
+pub(crate) const LAST_OF_WORK: &str =
+    "SELECT sender, work, revision, number, place, ordinal FROM versions WHERE sender = ?1 AND work = ?2 ORDER BY sender DESC, work DESC, revision DESC LIMIT 1";
+
+/// The query for all versions of a sender.
+pub(crate) const OF_SENDER: &str =
+    "SELECT sender, work, revision, number, place, ordinal FROM versions WHERE sender = ?1 ORDER BY sender, work, revision";
+
+/// The query for the first column of every row.
+pub(crate) const FIRST_COLUMN: &str = "SELECT sender FROM versions";
+
 /// A version of a work: where its transaction stands, and its work's ordinal.
 #[derive(Clone, Copy, Debug)]
 pub struct VersionRow<'a> {
