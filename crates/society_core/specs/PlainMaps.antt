@@ -24,10 +24,6 @@ bodies_of entries = map (λ entry. (entry.0, entry.1.items)) entries
 abbrev pub transmissions_of : BTreeMap TransmissionKey (Vec ℕ Global) → Transmissions
 transmissions_of kept = finite.from_entries (bodies_of kept.entries)
 
--- the orders that a map keeps
-abbrev pub orders_of : BTreeMap ℕ Order → finite.FinMap nat_cmp Order
-orders_of kept = finite.from_entries kept.entries
-
 -- entries with what each end says, by the place of the segment that comes next
 abbrev pub stated_by : List (SegmentKey × StatedEnd) → List (SegmentKey × End)
 stated_by entries = map (λ entry. (entry.0, end_stated entry.1)) entries
