@@ -3,7 +3,7 @@ ghost use Rattle.std.specs.Prelude.{◌≡◌};
 ghost use Rattle.book_audit.specs.Audited.{IsNumbered, IsRegistered};
 ghost use Rattle.book_audit.specs.Examining.{Examines, HoldsNot};
 ghost use Rattle.society_book.specs.Kept.{HoldsOwnBook};
-ghost use Rattle.society_rows.specs.Between.{within};
+ghost use Rattle.society_rows.specs.Between.{Within};
 
 use crate::AuditFault;
 use crate::entries::entries_in;
@@ -20,8 +20,7 @@ pub fn audit<S: Alter>(
     tx: &mut Transaction<'_, S>,
     office: &Office,
 ) -> Result<(), AuditFault>
-    ensures same_reference { tx.new.conn.ghost_name ≡ tx.old.conn.ghost_name }
-    ensures examined { within S.Store tx.old tx.new (Examines (HoldsNot office.now)) result (λ db _. IsRegistered office.now db → IsNumbered db → HoldsOwnBook office.now db) }
+    ensures examined { Within S.Store tx.old tx.new (Examines (HoldsNot office.now)) result (λ db _. IsRegistered office.now db → IsNumbered db → HoldsOwnBook office.now db) }
 {
     let senders = entries_in(alloc, tx)?;
     lines_agree(alloc, tx, office, senders.as_slice())?;

@@ -4,7 +4,7 @@ ghost use Rattle.book_audit.specs.Balances.{DeniesBalances, FindsBalances, Takes
 ghost use Rattle.book_audit.specs.Examining.{Examines, Judges};
 ghost use Rattle.society_book.specs.Columns.{HasRows, text_at};
 ghost use Rattle.society_book.specs.DerivedRows.{is_named};
-ghost use Rattle.society_rows.specs.Between.{within};
+ghost use Rattle.society_rows.specs.Between.{Within};
 
 use crate::AuditFault;
 use crate::reading::list_of;
@@ -56,8 +56,7 @@ pub fn balances_agree<S: Alter>(
     tx: &mut Transaction<'_, S>,
     totals: Totals,
 ) -> Result<(), AuditFault>
-    ensures same_reference { tx.new.conn.ghost_name ≡ tx.old.conn.ghost_name }
-    ensures examined { within S.Store tx.old tx.new (Examines (DeniesBalances totals)) result (λ db _. FindsBalances totals db) }
+    ensures examined { Within S.Store tx.old tx.new (Examines (DeniesBalances totals)) result (λ db _. FindsBalances totals db) }
 {
     let rows = list_of(tx, TableName::Balances)?;
     rows_agree(rows.as_slice(), totals.units)

@@ -3,7 +3,7 @@ ghost use Rattle.std.specs.Prelude.{◌≡◌, ◌↔◌, IsTrue};
 ghost use Rattle.std.specs.List.{AllByRecursion};
 ghost use Rattle.book_audit.specs.Examining.{Examines, IsNot};
 ghost use Rattle.book_audit.specs.Credits.{AreCreditsOfPools, IsCreditOf};
-ghost use Rattle.society_rows.specs.Between.{within};
+ghost use Rattle.society_rows.specs.Between.{Within};
 
 use crate::AuditFault;
 use crate::reading::ask;
@@ -42,8 +42,7 @@ pub fn has_no_stranger<S: Alter>(
     tx: &mut Transaction<'_, S>,
     pools: &BTreeSet<u32>,
 ) -> Result<(), AuditFault>
-    ensures same_reference { tx.new.conn.ghost_name ≡ tx.old.conn.ghost_name }
-    ensures examined { within S.Store tx.old tx.new (Examines (IsNot (AreCreditsOfPools pools.now))) result (λ db _. AreCreditsOfPools pools.now db) }
+    ensures examined { Within S.Store tx.old tx.new (Examines (IsNot (AreCreditsOfPools pools.now))) result (λ db _. AreCreditsOfPools pools.now db) }
 {
     let rows = ask(tx, Question::FirstColumns(DerivedTable::Credits))?;
     if are_of_these(pools, rows.as_slice()) {

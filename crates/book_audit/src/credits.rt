@@ -5,7 +5,7 @@ ghost use Rattle.book_audit.specs.Credits.{FindsCredits, HasCredits, HasNoPool, 
 ghost use Rattle.book_audit.specs.CreditSteps.{HasLines, ListsOnly};
 ghost use Rattle.society_closings.specs.Blamed.{CannotPayAmong};
 ghost use Rattle.society_closings.specs.Closings.{PaysAmong};
-ghost use Rattle.society_rows.specs.Between.{within};
+ghost use Rattle.society_rows.specs.Between.{Within};
 ghost use Rattle.society_rows.specs.Rows.{credit_values};
 
 use crate::AuditFault;
@@ -29,8 +29,7 @@ pub fn paid_by<S: Alter>(
     order: &PoolOrder,
     works: &PoolWorks,
 ) -> Result<Vec<Credit>, AuditFault>
-    ensures same_reference { tx.new.conn.ghost_name ≡ tx.old.conn.ghost_name }
-    ensures examined { within S.Store tx.old tx.new (Examines (CannotPayAmong office.now order.now works.now)) result (λ db credits. PaysAmong office.now order.now works.now db credits.items) }
+    ensures examined { Within S.Store tx.old tx.new (Examines (CannotPayAmong office.now order.now works.now)) result (λ db credits. PaysAmong office.now order.now works.now db credits.items) }
 {
     Ok(credits_in(alloc, tx, office, order, works)?)
 }
@@ -41,8 +40,7 @@ fn are_lines<S: Alter>(
     pool: u32,
     wanted: &[CreditRow<'_>],
 ) -> Result<(), AuditFault>
-    ensures same_reference { tx.new.conn.ghost_name ≡ tx.old.conn.ghost_name }
-    ensures examined { within S.Store tx.old tx.new (Examines (IsNot (ListsOnly pool (map credit_values wanted.now)))) result
+    ensures examined { Within S.Store tx.old tx.new (Examines (IsNot (ListsOnly pool (map credit_values wanted.now)))) result
         (λ db _. HasLines pool (map credit_values wanted.now) db) }
 {
     let rows = ask(tx, Question::Credits(pool))?;
@@ -60,8 +58,7 @@ fn lines_agree<S: Alter>(
     pool: u32,
     credits: &[Credit],
 ) -> Result<(), AuditFault>
-    ensures same_reference { tx.new.conn.ghost_name ≡ tx.old.conn.ghost_name }
-    ensures examined { within S.Store tx.old tx.new (Examines (IsNot (ListsOnly pool (credit_lines pool credits.now)))) result (λ db _. HasCredits pool credits.now db) }
+    ensures examined { Within S.Store tx.old tx.new (Examines (IsNot (ListsOnly pool (credit_lines pool credits.now)))) result (λ db _. HasCredits pool credits.now db) }
 {
     let texts = worked_out(texts_of(alloc, credits))?;
     let wanted = worked_out(line_rows(alloc, pool, credits, texts.as_slice()))?;
@@ -78,8 +75,7 @@ pub fn credits_agree<S: Alter>(
     order: &PoolOrder,
     works: &PoolWorks,
 ) -> Result<Vec<Credit>, AuditFault>
-    ensures same_reference { tx.new.conn.ghost_name ≡ tx.old.conn.ghost_name }
-    ensures examined { within S.Store tx.old tx.new (Examines (HasNoPool office.now pool order.now works.now)) result (FindsCredits office.now pool order.now works.now) }
+    ensures examined { Within S.Store tx.old tx.new (Examines (HasNoPool office.now pool order.now works.now)) result (FindsCredits office.now pool order.now works.now) }
 {
     let credits = paid_by(alloc, tx, office, order, works)?;
     lines_agree(alloc, tx, pool.value(), credits.as_slice())?;

@@ -3,7 +3,7 @@ ghost use Rattle.std.specs.Prelude.{◌≡◌, ◌++◌, IfOk, IfErr, OnOk, map}
 ghost use Rattle.book_audit.specs.Examining.{Examines, Judges};
 ghost use Rattle.book_audit.specs.OwnRows.{LacksOwn};
 ghost use Rattle.society_core.specs.Keys.{ascending, bytes_cmp};
-ghost use Rattle.society_rows.specs.Between.{within};
+ghost use Rattle.society_rows.specs.Between.{Within};
 ghost use Rattle.book_audit.specs.Entries.{AreEndsAbove, HoldsEntries};
 ghost use Rattle.book_audit.specs.Judging.{AreUnder};
 
@@ -77,8 +77,7 @@ pub fn entries_in<S: Alter>(
     alloc: Global,
     tx: &mut Transaction<'_, S>,
 ) -> Result<Vec<SenderKey>, AuditFault>
-    ensures same_reference { tx.new.conn.ghost_name ≡ tx.old.conn.ghost_name }
-    ensures examined { within S.Store tx.old tx.new (Examines LacksOwn) result (λ db senders. HoldsEntries senders.items db × AreEndsAbove db) }
+    ensures examined { Within S.Store tx.old tx.new (Examines LacksOwn) result (λ db senders. HoldsEntries senders.items db × AreEndsAbove db) }
 {
     let keys = sent_in(alloc, tx)?;
     let lasts = stated_in(alloc, tx)?;

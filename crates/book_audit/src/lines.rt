@@ -10,7 +10,7 @@ ghost use Rattle.society_arrivals.specs.Going.{IsWholeIn};
 ghost use Rattle.society_arrivals.specs.Outcomes.{settled};
 ghost use Rattle.society_book.specs.RightRows.{KeepsUnsound};
 ghost use Rattle.society_arrivals.specs.Runs.{is_key_among, settled_recordings, settled_verdict, settled_version};
-ghost use Rattle.society_rows.specs.Between.{within};
+ghost use Rattle.society_rows.specs.Between.{Within, within};
 ghost use Rattle.society_rows.specs.Layout as layout;
 ghost use Rattle.society_rows.specs.Questions.{RowsAnswer};
 ghost use Rattle.society_rows.specs.Rows.{front_values};
@@ -40,8 +40,7 @@ pub fn run_of<S: Alter>(
     office: &Office,
     sender: &SenderKey,
 ) -> Result<Run, AuditFault>
-    ensures same_reference { tx.new.conn.ghost_name ≡ tx.old.conn.ghost_name }
-    ensures examined { within S.Store tx.old tx.new (Examines KeepsUnsound) result (IsWholeIn office.now sender.now) }
+    ensures examined { Within S.Store tx.old tx.new (Examines KeepsUnsound) result (IsWholeIn office.now sender.now) }
 {
     Ok(whole_run(alloc, tx, office, sender)?)
 }
@@ -137,8 +136,7 @@ fn outcomes_agree<S: Alter>(
     front: &FrontRow<'_>,
     outcomes: &[Outcome<'_>],
 ) -> Result<(), AuditFault>
-    ensures same_reference { tx.new.conn.ghost_name ≡ tx.old.conn.ghost_name }
-    ensures examined { within S.Store tx.old tx.new (Examines (IsNot (HasSettled front.now outcomes.now))) result (λ db _. HasSettled front.now outcomes.now db) }
+    ensures examined { Within S.Store tx.old tx.new (Examines (IsNot (HasSettled front.now outcomes.now))) result (λ db _. HasSettled front.now outcomes.now db) }
 {
     front_agrees(alloc, tx, front)?;
     verdicts_agree(alloc, tx, front.sender, outcomes)?;
@@ -174,8 +172,7 @@ fn run_agrees<S: Alter>(
     sender: &SenderKey,
     run: &Run,
 ) -> Result<(), AuditFault>
-    ensures same_reference { tx.new.conn.ghost_name ≡ tx.old.conn.ghost_name }
-    ensures examined { within S.Store tx.old tx.new (Examines (IsNot (HasRun sender.now run.now))) result (λ db _. HasRun sender.now run.now db) }
+    ensures examined { Within S.Store tx.old tx.new (Examines (IsNot (HasRun sender.now run.now))) result (λ db _. HasRun sender.now run.now db) }
 {
     let (front, outcomes) = settled_line(alloc, sender, run)?;
     outcomes_agree(alloc, tx, &front, outcomes.as_slice())
@@ -188,8 +185,7 @@ fn line_agrees<S: Alter>(
     office: &Office,
     sender: &SenderKey,
 ) -> Result<(), AuditFault>
-    ensures same_reference { tx.new.conn.ghost_name ≡ tx.old.conn.ghost_name }
-    ensures examined { within S.Store tx.old tx.new (Examines (DeniesLine office.now sender.now)) result (λ db _. FindsLine office.now sender.now db) }
+    ensures examined { Within S.Store tx.old tx.new (Examines (DeniesLine office.now sender.now)) result (λ db _. FindsLine office.now sender.now db) }
 {
     let run = run_of(alloc, tx, office, sender)?;
     run_agrees(alloc, tx, sender, &run)
@@ -202,8 +198,7 @@ fn each_agrees<S: Alter>(
     office: &Office,
     senders: &[SenderKey],
 ) -> Result<(), AuditFault>
-    ensures same_reference { tx.new.conn.ghost_name ≡ tx.old.conn.ghost_name }
-    ensures examined { within S.Store tx.old tx.new (Examines (DeniesLines office.now senders.now)) result (λ db _. FindsLines office.now senders.now db) }
+    ensures examined { Within S.Store tx.old tx.new (Examines (DeniesLines office.now senders.now)) result (λ db _. FindsLines office.now senders.now db) }
 {
     for sender in senders {
         line_agrees(alloc, tx, office, sender)?;
@@ -220,8 +215,7 @@ pub fn lines_agree<S: Alter>(
     office: &Office,
     senders: &[SenderKey],
 ) -> Result<(), AuditFault>
-    ensures same_reference { tx.new.conn.ghost_name ≡ tx.old.conn.ghost_name }
-    ensures examined { within S.Store tx.old tx.new (Examines (λ db. AreSenders (book_of db) senders.now → HoldsNot office.now db)) result
+    ensures examined { Within S.Store tx.old tx.new (Examines (λ db. AreSenders (book_of db) senders.now → HoldsNot office.now db)) result
         (λ db _. FindsLines office.now senders.now db × AreLinesOf senders.now db) }
 {
     each_agrees(alloc, tx, office, senders)?;

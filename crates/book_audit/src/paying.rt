@@ -5,7 +5,7 @@ ghost use Rattle.book_audit.specs.Paying.{AreNumbersOf, CannotPayAny, CompletesB
 ghost use Rattle.society_closings.specs.Blamed.{HoldNoWorks, LackReturns};
 ghost use Rattle.society_closings.specs.CutWorks.{WantsMore};
 ghost use Rattle.society_closings.specs.Weighing.{AreWorksWeighed};
-ghost use Rattle.society_rows.specs.Between.{within};
+ghost use Rattle.society_rows.specs.Between.{Within};
 
 use crate::AuditFault;
 use crate::balances::balances_agree;
@@ -28,9 +28,8 @@ fn add_order<S: Alter>(
     order: &PoolOrder,
     wanted: &mut Wanted,
 ) -> Result<(), AuditFault>
-    ensures same_reference { tx.new.conn.ghost_name ≡ tx.old.conn.ghost_name }
     ensures more { OnOk result (WantsMore wanted.old wanted.new) }
-    ensures examined { within S.Store tx.old tx.new (Examines (LackReturns order.now.returns)) result (λ db _. WantsOrder order.now db wanted.new) }
+    ensures examined { Within S.Store tx.old tx.new (Examines (LackReturns order.now.returns)) result (λ db _. WantsOrder order.now db wanted.new) }
 {
     wanted.add_order(alloc, tx, order)?;
     Ok(())
@@ -42,8 +41,7 @@ fn wanted_by<S: Alter>(
     tx: &mut Transaction<'_, S>,
     closed: &[ClosedPool],
 ) -> Result<Wanted, AuditFault>
-    ensures same_reference { tx.new.conn.ghost_name ≡ tx.old.conn.ghost_name }
-    ensures examined { within S.Store tx.old tx.new (Examines (CannotPayAny closed.now)) result (WantsAll closed.now) }
+    ensures examined { Within S.Store tx.old tx.new (Examines (CannotPayAny closed.now)) result (WantsAll closed.now) }
 {
     let mut wanted = Wanted::new(alloc);
     for one in closed {
@@ -62,9 +60,8 @@ fn weigh_in<S: Alter>(
     wanted: &Wanted,
     works: &mut PoolWorks,
 ) -> Result<(), AuditFault>
-    ensures same_reference { tx.new.conn.ghost_name ≡ tx.old.conn.ghost_name }
     ensures listed { OnOk result (works.new.listed ≡ works.old.listed) }
-    ensures examined { within S.Store tx.old tx.new (Examines HoldNoWorks) result (λ db _. AreWorksWeighed office.now db works.old → AreWorksWeighed office.now db works.new) }
+    ensures examined { Within S.Store tx.old tx.new (Examines HoldNoWorks) result (λ db _. AreWorksWeighed office.now db works.old → AreWorksWeighed office.now db works.new) }
 {
     if !closed.iter().any(|one| one.order.kind() == kind) {
         return Ok(());
@@ -81,9 +78,8 @@ fn weigh<S: Alter>(
     wanted: &Wanted,
     works: &mut PoolWorks,
 ) -> Result<(), AuditFault>
-    ensures same_reference { tx.new.conn.ghost_name ≡ tx.old.conn.ghost_name }
     ensures listed { OnOk result (works.new.listed ≡ works.old.listed) }
-    ensures examined { within S.Store tx.old tx.new (Examines HoldNoWorks) result (λ db _. AreWorksWeighed office.now db works.old → AreWorksWeighed office.now db works.new) }
+    ensures examined { Within S.Store tx.old tx.new (Examines HoldNoWorks) result (λ db _. AreWorksWeighed office.now db works.old → AreWorksWeighed office.now db works.new) }
 {
     weigh_in(alloc, tx, office, closed, Kind::Performing, wanted, works)?;
     weigh_in(alloc, tx, office, closed, Kind::Mechanical, wanted, works)
@@ -97,8 +93,7 @@ pub fn works_of<S: Alter>(
     office: &Office,
     closed: &[ClosedPool],
 ) -> Result<PoolWorks, AuditFault>
-    ensures same_reference { tx.new.conn.ghost_name ≡ tx.old.conn.ghost_name }
-    ensures examined { within S.Store tx.old tx.new (Examines (CannotPayAny closed.now)) result (ListsForAll office.now closed.now) }
+    ensures examined { Within S.Store tx.old tx.new (Examines (CannotPayAny closed.now)) result (ListsForAll office.now closed.now) }
 {
     let wanted = wanted_by(alloc, tx, closed)?;
     let mut works = PoolWorks::of(alloc, wanted.works(alloc, tx)?);
@@ -115,8 +110,7 @@ fn totals_among<S: Alter>(
     closed: &[ClosedPool],
     works: &PoolWorks,
 ) -> Result<Totals, AuditFault>
-    ensures same_reference { tx.new.conn.ghost_name ≡ tx.old.conn.ghost_name }
-    ensures examined { within S.Store tx.old tx.new (Examines (LackPoolsAmong office.now closed.now works.now)) result (FindsPaidAmong office.now closed.now works.now) }
+    ensures examined { Within S.Store tx.old tx.new (Examines (LackPoolsAmong office.now closed.now works.now)) result (FindsPaidAmong office.now closed.now works.now) }
 {
     let mut totals = Totals::new(alloc);
     for one in closed {
@@ -133,8 +127,7 @@ fn totals_of<S: Alter>(
     office: &Office,
     closed: &[ClosedPool],
 ) -> Result<Totals, AuditFault>
-    ensures same_reference { tx.new.conn.ghost_name ≡ tx.old.conn.ghost_name }
-    ensures examined { within S.Store tx.old tx.new (Examines (LackPools office.now closed.now)) result (FindsPaid office.now closed.now closed.now) }
+    ensures examined { Within S.Store tx.old tx.new (Examines (LackPools office.now closed.now)) result (FindsPaid office.now closed.now closed.now) }
 {
     let works = works_of(alloc, tx, office, closed)?;
     totals_among(alloc, tx, office, closed, &works)
@@ -158,8 +151,7 @@ fn pools_agree<S: Alter>(
     office: &Office,
     closed: &[ClosedPool],
 ) -> Result<(), AuditFault>
-    ensures same_reference { tx.new.conn.ghost_name ≡ tx.old.conn.ghost_name }
-    ensures examined { within S.Store tx.old tx.new (Examines (DeniesPools office.now closed.now)) result (λ db _. FindsPools office.now closed.now db) }
+    ensures examined { Within S.Store tx.old tx.new (Examines (DeniesPools office.now closed.now)) result (λ db _. FindsPools office.now closed.now db) }
 {
     let totals = totals_of(alloc, tx, office, closed)?;
     let numbers = numbers_of(alloc, closed)?;
@@ -174,8 +166,7 @@ pub(crate) fn money_agrees<S: Alter>(
     tx: &mut Transaction<'_, S>,
     office: &Office,
 ) -> Result<(), AuditFault>
-    ensures same_reference { tx.new.conn.ghost_name ≡ tx.old.conn.ghost_name }
-    ensures examined { within S.Store tx.old tx.new (Examines (HoldsNot office.now)) result (λ db _. CompletesBook office.now db) }
+    ensures examined { Within S.Store tx.old tx.new (Examines (HoldsNot office.now)) result (λ db _. CompletesBook office.now db) }
 {
     let closed = orders_in(alloc, tx)?;
     pools_agree(alloc, tx, office, closed.as_slice())

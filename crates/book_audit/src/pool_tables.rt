@@ -2,7 +2,7 @@
 ghost use Rattle.std.specs.Prelude.{◌≡◌};
 ghost use Rattle.book_audit.specs.Examining.{Examines, Never};
 ghost use Rattle.book_audit.specs.Pools.{ListPools};
-ghost use Rattle.society_rows.specs.Between.{within};
+ghost use Rattle.society_rows.specs.Between.{Within};
 
 use crate::AuditFault;
 use crate::reading::list_of;
@@ -20,8 +20,7 @@ pub(crate) struct PoolRows {
 
 /// The rows of pools, and of what their orders say; `Memory` or `Store` where memory or the database failed.
 pub(crate) fn pool_rows<S: Alter>(tx: &mut Transaction<'_, S>) -> Result<PoolRows, AuditFault>
-    ensures same_reference { tx.new.conn.ghost_name ≡ tx.old.conn.ghost_name }
-    ensures examined { within S.Store tx.old tx.new (Examines Never) result ListPools }
+    ensures examined { Within S.Store tx.old tx.new (Examines Never) result ListPools }
 {
     let pools = list_of(tx, TableName::Pools)?;
     let cuts = list_of(tx, TableName::PoolCuts)?;

@@ -6,7 +6,7 @@ ghost use Rattle.book_audit.specs.Examining.{Examines};
 ghost use Rattle.book_audit.specs.Standing.{HoldsNoLines, IsReachKnown, IsReach, KnowsReach, LearnsReach, OfLines, TellsCut};
 ghost use Rattle.society_core.specs.Book.{front, is_applied};
 ghost use Rattle.society_book.specs.EndLists.{ReadsEnds};
-ghost use Rattle.society_rows.specs.Between.{within};
+ghost use Rattle.society_rows.specs.Between.{Within};
 ghost use Rattle.sqlite_trees.specs.Tree.{Trees};
 
 use crate::AuditFault;
@@ -48,8 +48,7 @@ fn front_of(row: &Row) -> Option<u32>
 
 // A sender's front; `Damaged` where its rows do not say one.
 fn front_in<S: Alter>(tx: &mut Transaction<'_, S>, sender: &SenderKey) -> Result<u32, AuditFault>
-    ensures same_reference { tx.new.conn.ghost_name ≡ tx.old.conn.ghost_name }
-    ensures examined { within S.Store tx.old tx.new (Examines HoldsNoLines) result (λ db n. OfLines (λ book. n ≡ front book sender.now) db) }
+    ensures examined { Within S.Store tx.old tx.new (Examines HoldsNoLines) result (λ db n. OfLines (λ book. n ≡ front book sender.now) db) }
 {
     let rows = ask(tx, Question::Front(sender.as_bytes()))?;
     match rows.as_slice() {
@@ -67,16 +66,14 @@ fn ends_of<S: Alter>(
     tx: &mut Transaction<'_, S>,
     sender: &SenderKey,
 ) -> Result<SenderEnds, AuditFault>
-    ensures same_reference { tx.new.conn.ghost_name ≡ tx.old.conn.ghost_name }
-    ensures examined { within S.Store tx.old tx.new (Examines HoldsNoLines) result (ReadsEnds sender.now) }
+    ensures examined { Within S.Store tx.old tx.new (Examines HoldsNoLines) result (ReadsEnds sender.now) }
 {
     Ok(ends_in(tx, sender.as_bytes())?)
 }
 
 // How far a sender came.
 fn reach_of<S: Alter>(tx: &mut Transaction<'_, S>, sender: &SenderKey) -> Result<Reach, AuditFault>
-    ensures same_reference { tx.new.conn.ghost_name ≡ tx.old.conn.ghost_name }
-    ensures examined { within S.Store tx.old tx.new (Examines HoldsNoLines) result (IsReach sender.now) }
+    ensures examined { Within S.Store tx.old tx.new (Examines HoldsNoLines) result (IsReach sender.now) }
 {
     let ends = ends_of(tx, sender)?;
     let front = front_in(tx, sender)?;
@@ -99,8 +96,7 @@ impl Reached {
         tx: &mut Transaction<'_, S>,
         sender: &SenderKey,
     ) -> Result<(), AuditFault>
-        ensures same_reference { tx.new.conn.ghost_name ≡ tx.old.conn.ghost_name }
-        ensures examined { within S.Store tx.old tx.new (Examines HoldsNoLines) result (λ db _. LearnsReach sender.now self.old self.new db) }
+        ensures examined { Within S.Store tx.old tx.new (Examines HoldsNoLines) result (λ db _. LearnsReach sender.now self.old self.new db) }
     {
         if self.by_sender.contains_key(sender) {
             return Ok(());
@@ -126,8 +122,7 @@ impl Reached {
         tx: &mut Transaction<'_, S>,
         cut: &[TransmissionKey],
     ) -> Result<bool, AuditFault>
-        ensures same_reference { tx.new.conn.ghost_name ≡ tx.old.conn.ghost_name }
-        ensures examined { within S.Store tx.old tx.new (Examines HoldsNoLines) result
+        ensures examined { Within S.Store tx.old tx.new (Examines HoldsNoLines) result
             (λ db told. KnowsReach db self.old → KnowsReach db self.new × TellsCut cut.now db told) }
     {
         for key in cut {

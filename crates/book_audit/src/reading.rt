@@ -2,7 +2,7 @@
 ghost use Rattle.std.specs.Prelude.{◌≡◌, IfErr, IfOk, Ok};
 ghost use Rattle.book_audit.specs.declared.audit_fault.AuditFault.TheVariants.{Memory};
 ghost use Rattle.book_audit.specs.Examining.{Examines, Never};
-ghost use Rattle.society_rows.specs.Between.{within};
+ghost use Rattle.society_rows.specs.Between.{Within};
 ghost use Rattle.society_rows.specs.Listings.{ListsAll};
 ghost use Rattle.society_rows.specs.Questions.{RowsAnswer};
 
@@ -15,8 +15,7 @@ pub(crate) fn list_of<S: Alter>(
     tx: &mut Transaction<'_, S>,
     table: TableName,
 ) -> Result<Vec<Row>, AuditFault>
-    ensures same_reference { tx.new.conn.ghost_name ≡ tx.old.conn.ghost_name }
-    ensures examined { within S.Store tx.old tx.new (Examines Never) result (λ db rows. ListsAll table db rows.items) }
+    ensures examined { Within S.Store tx.old tx.new (Examines Never) result (λ db rows. ListsAll table db rows.items) }
 {
     Ok(all_rows(tx, table)?)
 }
@@ -26,8 +25,7 @@ pub(crate) fn ask<S: Alter>(
     tx: &mut Transaction<'_, S>,
     question: Question<'_>,
 ) -> Result<Vec<Row>, AuditFault>
-    ensures same_reference { tx.new.conn.ghost_name ≡ tx.old.conn.ghost_name }
-    ensures examined { within S.Store tx.old tx.new (Examines Never) result (λ db rows. RowsAnswer question.entry db rows.items) }
+    ensures examined { Within S.Store tx.old tx.new (Examines Never) result (λ db rows. RowsAnswer question.entry db rows.items) }
 {
     Ok(answer(tx, question)?)
 }

@@ -2,7 +2,7 @@
 ghost use Rattle.std.specs.Prelude.{◌≡◌, Some, None, IfOk, false, true, if◌then◌else◌};
 ghost use Rattle.book_audit.specs.Examining.{Examines};
 ghost use Rattle.society_book.specs.BookRows.{return_key_of};
-ghost use Rattle.society_rows.specs.Between.{within};
+ghost use Rattle.society_rows.specs.Between.{Within};
 ghost use Rattle.work_ids.specs.Blanks.{fill};
 ghost use Rattle.book_audit.specs.Entries.{is_right_return};
 ghost use Rattle.book_audit.specs.Judging.{AreReported, is_one_right, is_reported_at, is_reported_key, is_reporter_spelled};
@@ -72,8 +72,7 @@ fn check_at<S: Alter>(
     tx: &mut Transaction<'_, S>,
     row: &Row,
 ) -> Result<(), AuditFault>
-    ensures same_reference { tx.new.conn.ghost_name ≡ tx.old.conn.ghost_name }
-    ensures examined { within S.Store tx.old tx.new (Examines (λ db. is_reported_at db row.now ≡ false)) result (λ db _. is_reported_at db row.now ≡ true) }
+    ensures examined { Within S.Store tx.old tx.new (Examines (λ db. is_reported_at db row.now ≡ false)) result (λ db _. is_reported_at db row.now ≡ true) }
 {
     let Some(key) = reported_key(row) else {
         return Err(AuditFault::Damaged);
@@ -94,8 +93,7 @@ pub(crate) fn check_returns<S: Alter>(
     alloc: Global,
     tx: &mut Transaction<'_, S>,
 ) -> Result<(), AuditFault>
-    ensures same_reference { tx.new.conn.ghost_name ≡ tx.old.conn.ghost_name }
-    ensures examined { within S.Store tx.old tx.new (Examines (λ db. AreReported db → ⊥)) result (λ db _. AreReported db) }
+    ensures examined { Within S.Store tx.old tx.new (Examines (λ db. AreReported db → ⊥)) result (λ db _. AreReported db) }
 {
     let rows = ask(tx, Question::ReturnKeys)?;
     for row in rows.as_slice() {

@@ -3,7 +3,7 @@ ghost use Rattle.std.specs.Prelude.{◌≡◌};
 ghost use Rattle.book_audit.specs.Examining.{Examines, Never};
 ghost use Rattle.book_audit.specs.Standing.{OfLines, TellsPaid, TellsReturns, is_paid_once};
 ghost use Rattle.society_core.specs.Book.{return_at};
-ghost use Rattle.society_rows.specs.Between.{within};
+ghost use Rattle.society_rows.specs.Between.{Within};
 ghost use Rattle.std.specs.Prelude.{is_some};
 
 use crate::AuditFault;
@@ -14,8 +14,7 @@ use sqlite::{Alter, Transaction};
 
 // Whether a return is there.
 fn is_there<S: Alter>(tx: &mut Transaction<'_, S>, key: &ReturnKey) -> Result<bool, AuditFault>
-    ensures same_reference { tx.new.conn.ghost_name ≡ tx.old.conn.ghost_name }
-    ensures examined { within S.Store tx.old tx.new (Examines Never) result (λ db told. OfLines (λ book. told ≡ is_some (return_at book key.now)) db) }
+    ensures examined { Within S.Store tx.old tx.new (Examines Never) result (λ db told. OfLines (λ book. told ≡ is_some (return_at book key.now)) db) }
 {
     let rows = ask(
         tx,
@@ -29,8 +28,7 @@ pub(crate) fn are_there<S: Alter>(
     tx: &mut Transaction<'_, S>,
     keys: &[ReturnKey],
 ) -> Result<bool, AuditFault>
-    ensures same_reference { tx.new.conn.ghost_name ≡ tx.old.conn.ghost_name }
-    ensures examined { within S.Store tx.old tx.new (Examines Never) result (TellsReturns keys.now) }
+    ensures examined { Within S.Store tx.old tx.new (Examines Never) result (TellsReturns keys.now) }
 {
     for key in keys {
         if !is_there(tx, key)? {
@@ -42,8 +40,7 @@ pub(crate) fn are_there<S: Alter>(
 
 // Whether one row of a return says that a pool pays it.
 fn is_paid_once<S: Alter>(tx: &mut Transaction<'_, S>, key: &ReturnKey) -> Result<bool, AuditFault>
-    ensures same_reference { tx.new.conn.ghost_name ≡ tx.old.conn.ghost_name }
-    ensures examined { within S.Store tx.old tx.new (Examines Never) result (λ db told. told ≡ is_paid_once db key.now) }
+    ensures examined { Within S.Store tx.old tx.new (Examines Never) result (λ db told. told ≡ is_paid_once db key.now) }
 {
     let rows = ask(
         tx,
@@ -57,8 +54,7 @@ pub(crate) fn are_paid_once<S: Alter>(
     tx: &mut Transaction<'_, S>,
     keys: &[ReturnKey],
 ) -> Result<bool, AuditFault>
-    ensures same_reference { tx.new.conn.ghost_name ≡ tx.old.conn.ghost_name }
-    ensures examined { within S.Store tx.old tx.new (Examines Never) result (TellsPaid keys.now) }
+    ensures examined { Within S.Store tx.old tx.new (Examines Never) result (TellsPaid keys.now) }
 {
     for key in keys {
         if !is_paid_once(tx, key)? {

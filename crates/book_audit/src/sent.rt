@@ -2,7 +2,7 @@
 ghost use Rattle.std.specs.Prelude.{◌≡◌, Some, None, IfOk, false, true, if◌then◌else◌};
 ghost use Rattle.book_audit.specs.Examining.{Examines};
 ghost use Rattle.society_book.specs.BookRows.{transmission_key_of};
-ghost use Rattle.society_rows.specs.Between.{within};
+ghost use Rattle.society_rows.specs.Between.{Within};
 ghost use Rattle.book_audit.specs.Entries.{is_right_sent};
 ghost use Rattle.book_audit.specs.Judging.{AreSent, AreSentKeys, is_one_right, is_sent_at, is_sent_key};
 
@@ -66,8 +66,7 @@ fn sent_at<S: Alter>(
     tx: &mut Transaction<'_, S>,
     row: &Row,
 ) -> Result<TransmissionKey, AuditFault>
-    ensures same_reference { tx.new.conn.ghost_name ≡ tx.old.conn.ghost_name }
-    ensures examined { within S.Store tx.old tx.new (Examines (λ db. is_sent_at db row.now ≡ false)) result
+    ensures examined { Within S.Store tx.old tx.new (Examines (λ db. is_sent_at db row.now ≡ false)) result
         (λ db key. (key ≡ transmission_key_of row.now) × (is_sent_at db row.now ≡ true)) }
 {
     let Some(key) = sent_key(row) else {
@@ -89,8 +88,7 @@ pub(crate) fn sent_in<S: Alter>(
     alloc: Global,
     tx: &mut Transaction<'_, S>,
 ) -> Result<Vec<TransmissionKey>, AuditFault>
-    ensures same_reference { tx.new.conn.ghost_name ≡ tx.old.conn.ghost_name }
-    ensures examined { within S.Store tx.old tx.new (Examines (λ db. AreSent db → ⊥)) result (λ db keys. AreSent db × AreSentKeys db keys.items) }
+    ensures examined { Within S.Store tx.old tx.new (Examines (λ db. AreSent db → ⊥)) result (λ db keys. AreSent db × AreSentKeys db keys.items) }
 {
     let rows = ask(tx, Question::TransmissionKeys)?;
     let mut keys = Vec::with_capacity(alloc, rows.len())?;

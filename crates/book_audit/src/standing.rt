@@ -6,7 +6,7 @@ ghost use Rattle.society_core.specs.Orders.{IsOrder};
 ghost use Rattle.book_audit.specs.Examining.{Examines};
 ghost use Rattle.book_audit.specs.OwnRows.{LacksReached};
 ghost use Rattle.book_audit.specs.Standing.{FindsOrders, HoldsNoLines, KnowsReach, OrdersFall, OrdersStand, TellsOrder};
-ghost use Rattle.society_rows.specs.Between.{within};
+ghost use Rattle.society_rows.specs.Between.{Within};
 
 use crate::AuditFault;
 use crate::pool_orders::{ClosedPool, closed_pools};
@@ -31,8 +31,7 @@ fn can_stand<S: Alter>(
     reached: &mut Reached,
     order: &PoolOrder,
 ) -> Result<bool, AuditFault>
-    ensures same_reference { tx.new.conn.ghost_name ≡ tx.old.conn.ghost_name }
-    ensures examined { within S.Store tx.old tx.new (Examines HoldsNoLines) result
+    ensures examined { Within S.Store tx.old tx.new (Examines HoldsNoLines) result
         (λ db told. KnowsReach db reached.old → KnowsReach db reached.new × TellsOrder order.now db told) }
     ensures kept { IfOk result (λ _. IsOrder order.now) }
 {
@@ -48,8 +47,7 @@ fn orders_stand<S: Alter>(
     tx: &mut Transaction<'_, S>,
     closed: &[ClosedPool],
 ) -> Result<(), AuditFault>
-    ensures same_reference { tx.new.conn.ghost_name ≡ tx.old.conn.ghost_name }
-    ensures examined { within S.Store tx.old tx.new (Examines (OrdersFall closed.now)) result (λ db _. OrdersStand closed.now db) }
+    ensures examined { Within S.Store tx.old tx.new (Examines (OrdersFall closed.now)) result (λ db _. OrdersStand closed.now db) }
     ensures kept { IfOk result (λ _. AllByRecursion (λ (c : ClosedPoolValue). IsOrder c.order) closed.now) }
 {
     let mut reached = Reached::new(alloc);
@@ -67,8 +65,7 @@ pub fn orders_in<S: Alter>(
     alloc: Global,
     tx: &mut Transaction<'_, S>,
 ) -> Result<Vec<ClosedPool>, AuditFault>
-    ensures same_reference { tx.new.conn.ghost_name ≡ tx.old.conn.ghost_name }
-    ensures examined { within S.Store tx.old tx.new (Examines LacksReached) result (λ db closed. FindsOrders db closed.items) }
+    ensures examined { Within S.Store tx.old tx.new (Examines LacksReached) result (λ db closed. FindsOrders db closed.items) }
 {
     let rows = pool_rows(tx)?;
     let closed = closed_pools(alloc, &rows)?;

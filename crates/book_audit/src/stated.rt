@@ -2,7 +2,7 @@
 ghost use Rattle.std.specs.Prelude.{◌≡◌, Some, None, IfOk, IfErr, map, true, if◌then◌else◌};
 ghost use Rattle.std.specs.List.{AllByRecursion, list_all};
 ghost use Rattle.book_audit.specs.Examining.{Examines, Judges};
-ghost use Rattle.society_rows.specs.Between.{within};
+ghost use Rattle.society_rows.specs.Between.{Within};
 ghost use Rattle.book_audit.specs.Entries.{is_right_stated};
 ghost use Rattle.book_audit.specs.Judging.{AreOnce, AreRightLasts, AreStated, HasLasts, is_under, last_stated};
 
@@ -91,8 +91,7 @@ pub(crate) fn stated_in<S: Alter>(
     alloc: Global,
     tx: &mut Transaction<'_, S>,
 ) -> Result<Vec<(SegmentKey, u32)>, AuditFault>
-    ensures same_reference { tx.new.conn.ghost_name ≡ tx.old.conn.ghost_name }
-    ensures examined { within S.Store tx.old tx.new (Examines (λ db. AreStated db → ⊥)) result (λ db lasts. AreRightLasts db lasts.items) }
+    ensures examined { Within S.Store tx.old tx.new (Examines (λ db. AreStated db → ⊥)) result (λ db lasts. AreRightLasts db lasts.items) }
 {
     let rows = list_of(tx, TableName::SegmentEnds)?;
     lasts_of(alloc, rows.as_slice())

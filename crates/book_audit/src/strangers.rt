@@ -4,7 +4,7 @@ ghost use Rattle.std.specs.BTreeSet.{IsFromIterResult};
 ghost use Rattle.std.specs.List.{AllByRecursion};
 ghost use Rattle.book_audit.specs.Examining.{Examines, IsNot};
 ghost use Rattle.society_core.specs.Keys.{bytes_cmp};
-ghost use Rattle.society_rows.specs.Between.{within};
+ghost use Rattle.society_rows.specs.Between.{Within, within};
 ghost use Rattle.society_rows.specs.FirstColumns.{derived_table};
 ghost use Rattle.book_audit.specs.Auditing.{AreLinesOf, is_of_one};
 ghost use Rattle.book_audit.specs.LineSteps.{AreAllOfThese, AreOfThese, DeniesLines};
@@ -55,8 +55,7 @@ fn table_agrees<S: Alter>(
     senders: &BTreeSet<SenderKey>,
     table: DerivedTable,
 ) -> Result<(), AuditFault>
-    ensures same_reference { tx.new.conn.ghost_name ≡ tx.old.conn.ghost_name }
-    ensures examined { within S.Store tx.old tx.new (Examines (IsNot (AreOfThese senders.now (derived_table table)))) result (λ db _. AreOfThese senders.now (derived_table table) db) }
+    ensures examined { Within S.Store tx.old tx.new (Examines (IsNot (AreOfThese senders.now (derived_table table)))) result (λ db _. AreOfThese senders.now (derived_table table) db) }
 {
     let rows = ask(tx, Question::FirstColumns(table))?;
     if are_of_these(senders, rows.as_slice()) {
@@ -71,8 +70,7 @@ fn tables_agree<S: Alter>(
     tx: &mut Transaction<'_, S>,
     senders: &BTreeSet<SenderKey>,
 ) -> Result<(), AuditFault>
-    ensures same_reference { tx.new.conn.ghost_name ≡ tx.old.conn.ghost_name }
-    ensures examined { within S.Store tx.old tx.new (Examines (IsNot (AreAllOfThese senders.now))) result (λ db _. AreAllOfThese senders.now db) }
+    ensures examined { Within S.Store tx.old tx.new (Examines (IsNot (AreAllOfThese senders.now))) result (λ db _. AreAllOfThese senders.now db) }
 {
     table_agrees(tx, senders, DerivedTable::Fronts)?;
     table_agrees(tx, senders, DerivedTable::Verdicts)?;

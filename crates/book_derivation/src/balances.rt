@@ -3,7 +3,7 @@ ghost use Rattle.std.specs.Prelude.{◌≡◌};
 ghost use Rattle.book_audit.specs.Examining.{Never};
 ghost use Rattle.book_derivation.specs.Deriving.{Derives};
 ghost use Rattle.book_derivation.specs.Money.{AddsBalance, WritesBalances};
-ghost use Rattle.society_rows.specs.Between.{within};
+ghost use Rattle.society_rows.specs.Between.{Within};
 
 use crate::writing::wrote;
 use book_audit::{AuditFault, Totals, worked_out};
@@ -17,8 +17,7 @@ fn write_balance<S: Alter>(
     account: &[u8],
     units: u64,
 ) -> Result<(), AuditFault>
-    ensures same_reference { tx.new.conn.ghost_name ≡ tx.old.conn.ghost_name }
-    ensures derives { within S.Store tx.old tx.new (Derives Never) result (λ before after _. AddsBalance account.now units before after) }
+    ensures derives { Within S.Store tx.old tx.new (Derives Never) result (λ before after _. AddsBalance account.now units before after) }
 {
     let units = worked_out(column_of(units))?;
     wrote(add(tx, NewRows::Balance(&BalanceRow { account, units })))
@@ -29,8 +28,7 @@ pub(crate) fn write_balances<S: Alter>(
     tx: &mut Transaction<'_, S>,
     totals: &Totals,
 ) -> Result<(), AuditFault>
-    ensures same_reference { tx.new.conn.ghost_name ≡ tx.old.conn.ghost_name }
-    ensures derives { within S.Store tx.old tx.new (Derives Never) result (λ before after _. WritesBalances totals.now before after) }
+    ensures derives { Within S.Store tx.old tx.new (Derives Never) result (λ before after _. WritesBalances totals.now before after) }
 {
     for (account, units) in &totals.units {
         write_balance(tx, account.as_slice(), *units)?;

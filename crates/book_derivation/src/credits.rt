@@ -5,7 +5,7 @@ ghost use Rattle.book_derivation.specs.Deriving.{Derives};
 ghost use Rattle.book_audit.specs.Paying.{CannotPayAll};
 ghost use Rattle.book_derivation.specs.Money.{AddsCredits, AddsLines, CannotPayListed, WritesCredits, WritesListed, WritesPool};
 ghost use Rattle.society_closings.specs.Blamed.{CannotPayAmong};
-ghost use Rattle.society_rows.specs.Between.{within};
+ghost use Rattle.society_rows.specs.Between.{Within};
 ghost use Rattle.society_rows.specs.Rows.{credit_values};
 
 use crate::writing::wrote;
@@ -24,8 +24,7 @@ fn add_lines<S: Alter>(
     tx: &mut Transaction<'_, S>,
     lines: &[CreditRow<'_>],
 ) -> Result<(), AuditFault>
-    ensures same_reference { tx.new.conn.ghost_name ≡ tx.old.conn.ghost_name }
-    ensures derives { within S.Store tx.old tx.new (Derives Never) result (λ before after _. AddsLines (map credit_values lines.now) before after) }
+    ensures derives { Within S.Store tx.old tx.new (Derives Never) result (λ before after _. AddsLines (map credit_values lines.now) before after) }
 {
     wrote(add_all(tx, lines))
 }
@@ -37,8 +36,7 @@ fn write_lines<S: Alter>(
     pool: u32,
     credits: &[Credit],
 ) -> Result<(), AuditFault>
-    ensures same_reference { tx.new.conn.ghost_name ≡ tx.old.conn.ghost_name }
-    ensures derives { within S.Store tx.old tx.new (Derives Never) result (λ before after _. AddsCredits pool credits.now before after) }
+    ensures derives { Within S.Store tx.old tx.new (Derives Never) result (λ before after _. AddsCredits pool credits.now before after) }
 {
     let texts = worked_out(texts_of(alloc, credits))?;
     let lines = worked_out(line_rows(alloc, pool, credits, texts.as_slice()))?;
@@ -55,8 +53,7 @@ fn write_pool<S: Alter>(
     order: &PoolOrder,
     works: &PoolWorks,
 ) -> Result<Vec<Credit>, AuditFault>
-    ensures same_reference { tx.new.conn.ghost_name ≡ tx.old.conn.ghost_name }
-    ensures derives { within S.Store tx.old tx.new (Derives (CannotPayAmong office.now order.now works.now)) result (λ before after credits. WritesPool office.now pool order.now works.now before after credits.items) }
+    ensures derives { Within S.Store tx.old tx.new (Derives (CannotPayAmong office.now order.now works.now)) result (λ before after credits. WritesPool office.now pool order.now works.now before after credits.items) }
 {
     let credits = paid_by(alloc, tx, office, order, works)?;
     write_lines(alloc, tx, pool.value(), credits.as_slice())?;
@@ -71,8 +68,7 @@ fn write_each<S: Alter>(
     closed: &[ClosedPool],
     works: &PoolWorks,
 ) -> Result<Totals, AuditFault>
-    ensures same_reference { tx.new.conn.ghost_name ≡ tx.old.conn.ghost_name }
-    ensures derives { within S.Store tx.old tx.new (Derives (CannotPayListed office.now closed.now works.now)) result (WritesListed office.now closed.now works.now) }
+    ensures derives { Within S.Store tx.old tx.new (Derives (CannotPayListed office.now closed.now works.now)) result (WritesListed office.now closed.now works.now) }
 {
     let mut totals = Totals::new(alloc);
     for one in closed {
@@ -91,8 +87,7 @@ pub(crate) fn write_credits<S: Alter>(
     office: &Office,
     closed: &[ClosedPool],
 ) -> Result<Totals, AuditFault>
-    ensures same_reference { tx.new.conn.ghost_name ≡ tx.old.conn.ghost_name }
-    ensures derives { within S.Store tx.old tx.new (Derives (CannotPayAll office.now closed.now)) result (WritesCredits office.now closed.now) }
+    ensures derives { Within S.Store tx.old tx.new (Derives (CannotPayAll office.now closed.now)) result (WritesCredits office.now closed.now) }
 {
     let works = works_of(alloc, tx, office, closed)?;
     write_each(alloc, tx, office, closed, &works)

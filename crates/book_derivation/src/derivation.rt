@@ -1,7 +1,7 @@
 //! What is derived of a book, written to tables that have its own rows alone.
 ghost use Rattle.std.specs.Prelude.{◌≡◌};
 ghost use Rattle.book_derivation.specs.Deriving.{Derives, DerivesBook, LacksBook};
-ghost use Rattle.society_rows.specs.Between.{within};
+ghost use Rattle.society_rows.specs.Between.{Within};
 
 use crate::lines::write_lines;
 use crate::money::write_money;
@@ -17,8 +17,7 @@ pub fn derive<S: Alter>(
     tx: &mut Transaction<'_, S>,
     office: &Office,
 ) -> Result<(), AuditFault>
-    ensures same_reference { tx.new.conn.ghost_name ≡ tx.old.conn.ghost_name }
-    ensures derives { within S.Store tx.old tx.new (Derives (LacksBook office.now)) result (λ before after _. DerivesBook office.now before after) }
+    ensures derives { Within S.Store tx.old tx.new (Derives (LacksBook office.now)) result (λ before after _. DerivesBook office.now before after) }
 {
     let senders = entries_in(alloc, tx)?;
     write_lines(alloc, tx, office, senders.as_slice())?;

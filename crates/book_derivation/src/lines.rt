@@ -5,7 +5,7 @@ ghost use Rattle.book_derivation.specs.Deriving.{Derives};
 ghost use Rattle.book_derivation.specs.Lines.{PutsRows, WritesLine, WritesLines};
 ghost use Rattle.society_arrivals.specs.Arriving.{PutsOutcomes};
 ghost use Rattle.society_book.specs.RightRows.{KeepsUnsound};
-ghost use Rattle.society_rows.specs.Between.{within};
+ghost use Rattle.society_rows.specs.Between.{Within};
 ghost use Rattle.society_rows.specs.Rows.{front_values};
 
 use crate::writing::wrote;
@@ -25,8 +25,7 @@ fn write_rows<S: Alter>(
     versions: &[VersionRow<'_>],
     recordings: &[RecordingRow<'_>],
 ) -> Result<(), AuditFault>
-    ensures same_reference { tx.new.conn.ghost_name ≡ tx.old.conn.ghost_name }
-    ensures derives { within S.Store tx.old tx.new (Derives Never) result (λ before after _. PutsRows front.now verdicts.now versions.now recordings.now before after) }
+    ensures derives { Within S.Store tx.old tx.new (Derives Never) result (λ before after _. PutsRows front.now verdicts.now versions.now recordings.now before after) }
 {
     wrote(put_front(tx, front))?;
     wrote(add_all(tx, verdicts))?;
@@ -41,8 +40,7 @@ fn write_outcomes<S: Alter>(
     front: &FrontRow<'_>,
     outcomes: &[Outcome<'_>],
 ) -> Result<(), AuditFault>
-    ensures same_reference { tx.new.conn.ghost_name ≡ tx.old.conn.ghost_name }
-    ensures derives { within S.Store tx.old tx.new (Derives Never) result (λ before after _. PutsOutcomes (front_values front.now) front.now.sender.now outcomes.now before after) }
+    ensures derives { Within S.Store tx.old tx.new (Derives Never) result (λ before after _. PutsOutcomes (front_values front.now) front.now.sender.now outcomes.now before after) }
 {
     let verdicts = worked_out(verdict_rows(alloc, front.sender, outcomes))?;
     let versions = worked_out(versions_by_key(alloc, front.sender, outcomes))?;
@@ -63,8 +61,7 @@ fn write_line<S: Alter>(
     office: &Office,
     sender: &SenderKey,
 ) -> Result<(), AuditFault>
-    ensures same_reference { tx.new.conn.ghost_name ≡ tx.old.conn.ghost_name }
-    ensures derives { within S.Store tx.old tx.new (Derives KeepsUnsound) result (λ before after _. WritesLine office.now sender.now before after) }
+    ensures derives { Within S.Store tx.old tx.new (Derives KeepsUnsound) result (λ before after _. WritesLine office.now sender.now before after) }
 {
     let run = run_of(alloc, tx, office, sender)?;
     let (front, outcomes) = settled_line(alloc, sender, &run)?;
@@ -80,8 +77,7 @@ pub(crate) fn write_lines<S: Alter>(
     office: &Office,
     senders: &[SenderKey],
 ) -> Result<(), AuditFault>
-    ensures same_reference { tx.new.conn.ghost_name ≡ tx.old.conn.ghost_name }
-    ensures derives { within S.Store tx.old tx.new (Derives KeepsUnsound) result (λ before after _. WritesLines office.now senders.now before after) }
+    ensures derives { Within S.Store tx.old tx.new (Derives KeepsUnsound) result (λ before after _. WritesLines office.now senders.now before after) }
 {
     for sender in senders {
         write_line(alloc, tx, office, sender)?;

@@ -2,7 +2,7 @@
 ghost use Rattle.std.specs.Prelude.{◌≡◌};
 ghost use Rattle.book_derivation.specs.Deriving.{Derives};
 ghost use Rattle.book_derivation.specs.Money.{LacksLined, WritesMoney};
-ghost use Rattle.society_rows.specs.Between.{within};
+ghost use Rattle.society_rows.specs.Between.{Within};
 
 use crate::balances::write_balances;
 use crate::credits::write_credits;
@@ -18,8 +18,7 @@ pub(crate) fn write_money<S: Alter>(
     tx: &mut Transaction<'_, S>,
     office: &Office,
 ) -> Result<(), AuditFault>
-    ensures same_reference { tx.new.conn.ghost_name ≡ tx.old.conn.ghost_name }
-    ensures derives { within S.Store tx.old tx.new (Derives (LacksLined office.now)) result (λ before after _. WritesMoney office.now before after) }
+    ensures derives { Within S.Store tx.old tx.new (Derives (LacksLined office.now)) result (λ before after _. WritesMoney office.now before after) }
 {
     let closed = orders_in(alloc, tx)?;
     let totals = write_credits(alloc, tx, office, closed.as_slice())?;

@@ -1,7 +1,7 @@
 //! The transmissions that come of a sender.
 ghost use Rattle.std.specs.Prelude.{◌≡◌, None};
 ghost use Rattle.cwr_files.specs.FileFault.{file_fault};
-ghost use Rattle.society_rows.specs.Between.{between, within};
+ghost use Rattle.society_rows.specs.Between.{Within, between};
 ghost use Rattle.society_arrivals.specs.Arriving.{ArrivesBy, ArrivesWith, BeginsRun, TakesRun};
 ghost use Rattle.society_book.specs.Shown.{AddsAlone};
 ghost use Rattle.society_arrivals.specs.Arrivals.{Arrives, ArrivesTo};
@@ -28,8 +28,7 @@ fn run_with<S: Alter>(
     body: &[u8],
 ) -> Result<Run, RowFault>
     requires right { file_fault sender.now body.now ≡ None }
-    ensures same_reference { tx.new.conn.ghost_name ≡ tx.old.conn.ghost_name }
-    ensures looks { within S.Store tx.old tx.new Looks result (BeginsRun office.now sender.now number body.now) }
+    ensures looks { Within S.Store tx.old tx.new Looks result (BeginsRun office.now sender.now number body.now) }
 {
     let mut run = Run::begin(alloc, office, sender, number, body)?;
     go_on(tx, sender, &mut run)?;
@@ -49,8 +48,7 @@ fn run_from<S: Alter>(
     front: u32,
 ) -> Result<Run, RowFault>
     requires right { file_fault sender.now body.now ≡ None }
-    ensures same_reference { tx.new.conn.ghost_name ≡ tx.old.conn.ghost_name }
-    ensures looks { within S.Store tx.old tx.new Looks result (ArrivesBy office.now sender.now number body.now front) }
+    ensures looks { Within S.Store tx.old tx.new Looks result (ArrivesBy office.now sender.now number body.now front) }
 {
     if number.value() - 1 != front {
         return Ok(Run::new(alloc, office, front));
@@ -68,8 +66,7 @@ fn take_run<S: Alter>(
     works: u64,
     run: &Run,
 ) -> Result<(), RowFault>
-    ensures same_reference { tx.new.conn.ghost_name ≡ tx.old.conn.ghost_name }
-    ensures does { within S.Store tx.old tx.new Does result (λ before after _. TakesRun sender.now number body.now works run.now before.trees after.trees) }
+    ensures does { Within S.Store tx.old tx.new Does result (λ before after _. TakesRun sender.now number body.now works run.now before.trees after.trees) }
 {
     put_run(alloc, tx, sender, works, run)?;
     let row = TransmissionRow {
@@ -90,8 +87,7 @@ fn arrive_inside<S: Alter>(
     body: &[u8],
 ) -> Result<NumberPlace, RowFault>
     requires right { file_fault sender.now body.now ≡ None }
-    ensures same_reference { tx.new.conn.ghost_name ≡ tx.old.conn.ghost_name }
-    ensures does { within S.Store tx.old tx.new DoesOpen result (λ before after place. ArrivesWith office.now sender.now number body.now before.trees after.trees place) }
+    ensures does { Within S.Store tx.old tx.new DoesOpen result (λ before after place. ArrivesWith office.now sender.now number body.now before.trees after.trees place) }
 {
     // The number's limits are part of what a sound book says.
     let _number = number.value();

@@ -1,6 +1,6 @@
 //! How a run goes on: from number to number, and over the ends of segments.
 ghost use Rattle.std.specs.Prelude.{◌≡◌, ◌≤◌};
-ghost use Rattle.society_rows.specs.Between.{within};
+ghost use Rattle.society_rows.specs.Between.{Within, within};
 ghost use Rattle.society_rows.specs.Effects.{Errs};
 ghost use Rattle.society_arrivals.specs.Going.{IsWholeIn, RunsOn, RunsOver};
 ghost use Rattle.society_book.specs.RightRows.{KeepsUnsound};
@@ -21,8 +21,7 @@ pub(crate) fn go_on<S: Alter>(
     sender: &SenderKey,
     run: &mut Run,
 ) -> Result<(), RowFault>
-    ensures same_reference { tx.new.conn.ghost_name ≡ tx.old.conn.ghost_name }
-    ensures looks { within S.Store tx.old tx.new Looks result (λ db _. RunsOn sender.now run.old run.new db) }
+    ensures looks { Within S.Store tx.old tx.new Looks result (λ db _. RunsOn sender.now run.old run.new db) }
     ensures err { within S.Store tx.old tx.new (Errs KeepsUnsound) result }
 {
     match run.front().checked_add(1) {
@@ -40,8 +39,7 @@ pub(crate) fn go_over<S: Alter>(
     run: &mut Run,
 ) -> Result<(), RowFault>
     requires { begun ≤ greatest_rank }
-    ensures same_reference { tx.new.conn.ghost_name ≡ tx.old.conn.ghost_name }
-    ensures looks { within S.Store tx.old tx.new Looks result (λ db _. RunsOver sender.now ends.now begun run.old run.new db) }
+    ensures looks { Within S.Store tx.old tx.new Looks result (λ db _. RunsOver sender.now ends.now begun run.old run.new db) }
     ensures err { within S.Store tx.old tx.new (Errs KeepsUnsound) result }
 {
     // The rank from which the last numbers were read: it rises also where a disk lies of what stands behind it.
@@ -61,8 +59,7 @@ pub fn whole_run<S: Alter>(
     office: &Office,
     sender: &SenderKey,
 ) -> Result<Run, RowFault>
-    ensures same_reference { tx.new.conn.ghost_name ≡ tx.old.conn.ghost_name }
-    ensures looks { within S.Store tx.old tx.new LooksOpen result (IsWholeIn office.now sender.now) }
+    ensures looks { Within S.Store tx.old tx.new LooksOpen result (IsWholeIn office.now sender.now) }
     ensures err { within S.Store tx.old tx.new (Errs KeepsUnsound) result }
 {
     let ends = ends_in(tx, sender.as_bytes())?;

@@ -1,6 +1,6 @@
 //! What is worked out of a run behind a sender's line, and what is written of it.
 ghost use Rattle.std.specs.Prelude.{◌≡◌, [], ℕ, flat_map, map, IfOk, IsPermutation};
-ghost use Rattle.society_rows.specs.Between.{within};
+ghost use Rattle.society_rows.specs.Between.{Within};
 ghost use Rattle.society_rows.specs.Rows.{front_values, recording_values, verdict_values, version_values};
 ghost use Rattle.society_arrivals.specs.Arriving.{EndsAtFront, LearnsWork, LearnsWorks, PutsOutcomes, PutsRun};
 ghost use Rattle.society_arrivals.specs.Outcomes.{settled};
@@ -53,8 +53,7 @@ pub(crate) fn reached_in<S: Alter>(
     tx: &mut Transaction<'_, S>,
     sender: &[u8],
 ) -> Result<Reached, RowFault>
-    ensures same_reference { tx.new.conn.ghost_name ≡ tx.old.conn.ghost_name }
-    ensures looks { within S.Store tx.old tx.new LooksOpen result (ByBook (λ office book reached. HasReached office book sender.now reached.front reached.works)) }
+    ensures looks { Within S.Store tx.old tx.new LooksOpen result (ByBook (λ office book reached. HasReached office book sender.now reached.front reached.works)) }
 {
     let rows = answer(tx, Question::Front(sender))?;
     shown_reached(rows.as_slice())
@@ -67,8 +66,7 @@ fn learn_work<S: Alter>(
     work: &WorkNumber,
     end: &mut LineEnd,
 ) -> Result<(), RowFault>
-    ensures same_reference { tx.new.conn.ghost_name ≡ tx.old.conn.ghost_name }
-    ensures looks { within S.Store tx.old tx.new Looks result (λ db _. LearnsWork sender.now work.now end.old end.new db) }
+    ensures looks { Within S.Store tx.old tx.new Looks result (λ db _. LearnsWork sender.now work.now end.old end.new db) }
 {
     let rows = answer(
         tx,
@@ -86,8 +84,7 @@ fn learn_all<S: Alter>(
     works: &[WorkNumber],
     end: &mut LineEnd,
 ) -> Result<(), RowFault>
-    ensures same_reference { tx.new.conn.ghost_name ≡ tx.old.conn.ghost_name }
-    ensures looks { within S.Store tx.old tx.new Looks result (λ db _. LearnsWorks sender.now works.now end.old end.new db) }
+    ensures looks { Within S.Store tx.old tx.new Looks result (λ db _. LearnsWorks sender.now works.now end.old end.new db) }
 {
     for work in works {
         learn_work(tx, sender, work, end)?;
@@ -103,8 +100,7 @@ fn end_at_front<S: Alter>(
     works: u64,
     run: &[Noted],
 ) -> Result<LineEnd, RowFault>
-    ensures same_reference { tx.new.conn.ghost_name ≡ tx.old.conn.ghost_name }
-    ensures looks { within S.Store tx.old tx.new Looks result (EndsAtFront sender.now works run.now) }
+    ensures looks { Within S.Store tx.old tx.new Looks result (EndsAtFront sender.now works run.now) }
 {
     let asked = ascending_works(alloc, run)?;
     let mut end = LineEnd::new(alloc, works);
@@ -119,8 +115,7 @@ fn add_told<S: Alter>(
     versions: &[VersionRow<'_>],
     recordings: &[RecordingRow<'_>],
 ) -> Result<(), RowFault>
-    ensures same_reference { tx.new.conn.ghost_name ≡ tx.old.conn.ghost_name }
-    ensures does { within S.Store tx.old tx.new Does result (Makes (AddsTold (map verdict_values verdicts.now) (map version_values versions.now) (map recording_values recordings.now))) }
+    ensures does { Within S.Store tx.old tx.new Does result (Makes (AddsTold (map verdict_values verdicts.now) (map version_values versions.now) (map recording_values recordings.now))) }
 {
     add_all(tx, verdicts)?;
     add_all(tx, versions)?;
@@ -161,8 +156,7 @@ fn put_told<S: Alter>(
     front: &FrontRow<'_>,
     outcomes: &[Outcome<'_>],
 ) -> Result<(), RowFault>
-    ensures same_reference { tx.new.conn.ghost_name ≡ tx.old.conn.ghost_name }
-    ensures does { within S.Store tx.old tx.new Does result (Makes (PutsOutcomes (front_values front.now) front.now.sender.now outcomes.now)) }
+    ensures does { Within S.Store tx.old tx.new Does result (Makes (PutsOutcomes (front_values front.now) front.now.sender.now outcomes.now)) }
 {
     let verdicts = verdict_rows(alloc, front.sender, outcomes)?;
     let versions = versions_by_key(alloc, front.sender, outcomes)?;
@@ -184,8 +178,7 @@ pub(crate) fn put_run<S: Alter>(
     works: u64,
     run: &Run,
 ) -> Result<(), RowFault>
-    ensures same_reference { tx.new.conn.ghost_name ≡ tx.old.conn.ghost_name }
-    ensures does { within S.Store tx.old tx.new Does result (λ before after _. PutsRun sender.now works run.now before.trees after.trees) }
+    ensures does { Within S.Store tx.old tx.new Does result (λ before after _. PutsRun sender.now works run.now before.trees after.trees) }
 {
     let mut end = end_at_front(alloc, tx, sender, works, run.notes())?;
     let outcomes = settle_run(alloc, &mut end, run.notes())?;

@@ -1,6 +1,6 @@
 //! The ends of segments that a sender states.
 ghost use Rattle.std.specs.Prelude.{◌≡◌};
-ghost use Rattle.society_rows.specs.Between.{between, within};
+ghost use Rattle.society_rows.specs.Between.{Within, between};
 ghost use Rattle.society_arrivals.specs.Arriving.{EndsRun, StatesBy, StatesWith};
 ghost use Rattle.society_book.specs.Shown.{AddsAlone};
 ghost use Rattle.society_book.specs.Steps.{Does, DoesOpen, Looks};
@@ -25,8 +25,7 @@ fn run_behind<S: Alter>(
     end: &SegmentEnd,
     front: u32,
 ) -> Result<Run, RowFault>
-    ensures same_reference { tx.new.conn.ghost_name ≡ tx.old.conn.ghost_name }
-    ensures looks { within S.Store tx.old tx.new Looks result (StatesBy office.now sender.now end.now front) }
+    ensures looks { Within S.Store tx.old tx.new Looks result (StatesBy office.now sender.now end.now front) }
 {
     let mut ends = ends_in(tx, sender.as_bytes())?;
     ends.push(end)?;
@@ -47,8 +46,7 @@ fn end_run<S: Alter>(
     works: u64,
     run: &Run,
 ) -> Result<(), RowFault>
-    ensures same_reference { tx.new.conn.ghost_name ≡ tx.old.conn.ghost_name }
-    ensures does { within S.Store tx.old tx.new Does result (λ before after _. EndsRun sender.now end.now works run.now before.trees after.trees) }
+    ensures does { Within S.Store tx.old tx.new Does result (λ before after _. EndsRun sender.now end.now works run.now before.trees after.trees) }
 {
     put_run(alloc, tx, sender, works, run)?;
     let row = SegmentEndRow {
@@ -68,8 +66,7 @@ fn state_inside<S: Alter>(
     sender: &SenderKey,
     end: &SegmentEnd,
 ) -> Result<u32, RowFault>
-    ensures same_reference { tx.new.conn.ghost_name ≡ tx.old.conn.ghost_name }
-    ensures does { within S.Store tx.old tx.new DoesOpen result (λ before after front. StatesWith office.now sender.now end.now before.trees after.trees front) }
+    ensures does { Within S.Store tx.old tx.new DoesOpen result (λ before after front. StatesWith office.now sender.now end.now before.trees after.trees front) }
 {
     // That the end has no fault is part of what a sound book says.
     let _last = end.last();

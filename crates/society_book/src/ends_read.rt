@@ -3,7 +3,7 @@ ghost use Rattle.std.specs.Prelude.{◌≡◌, IfErr, IfOk};
 ghost use Rattle.std.specs.List.{AllByRecursion};
 ghost use Rattle.sender_segments.specs.Ways.{end_stated};
 ghost use Rattle.society_core.specs.Ends.{place_stated};
-ghost use Rattle.society_rows.specs.Between.{between, within};
+ghost use Rattle.society_rows.specs.Between.{Within, between, within};
 ghost use Rattle.society_rows.specs.Effects.{Errs};
 ghost use Rattle.society_rows.specs.Questions.{Asks};
 ghost use Rattle.society_book.specs.BookRows.{end_of};
@@ -45,8 +45,7 @@ fn ends_shown(alloc: Global, rows: &[Row]) -> Result<SenderEnds, RowFault>
 
 /// The ends that a sender stated, read in a transaction.
 pub fn ends_in<S: Alter>(tx: &mut Transaction<'_, S>, sender: &[u8]) -> Result<SenderEnds, RowFault>
-    ensures same_reference { tx.new.conn.ghost_name ≡ tx.old.conn.ghost_name }
-    ensures looks { within S.Store tx.old tx.new LooksOpen result (ReadsEnds sender.now) }
+    ensures looks { Within S.Store tx.old tx.new LooksOpen result (ReadsEnds sender.now) }
     ensures err { within S.Store tx.old tx.new (Errs KeepsUnsound) result }
 {
     let rows = answer(tx, Question::Ends(sender))?;

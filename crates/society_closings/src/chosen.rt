@@ -11,7 +11,7 @@ ghost use Rattle.society_book.specs.Columns.{whole_number_at};
 ghost use Rattle.society_closings.specs.CutWorks.{Chooses, chosen_at};
 ghost use Rattle.society_book.specs.Shown.{version_shown};
 ghost use Rattle.society_book.specs.Steps.{Looks};
-ghost use Rattle.society_rows.specs.Between.{within};
+ghost use Rattle.society_rows.specs.Between.{Within, within};
 ghost use Rattle.society_rows.specs.Effects.{Errs};
 ghost use Rattle.society_book.specs.Errors.{Blames};
 ghost use Rattle.society_closings.specs.Blamed.{HoldNoWorks};
@@ -50,8 +50,7 @@ fn version_at<S: Alter>(
     key: &TransmissionKey,
     work: &WorkNumber,
 ) -> Result<Option<WorkVersion>, RowFault>
-    ensures same_reference { tx.new.conn.ghost_name ≡ tx.old.conn.ghost_name }
-    ensures looks { within S.Store tx.old tx.new Looks result (IsVersionAtCut key.now work.now) }
+    ensures looks { Within S.Store tx.old tx.new Looks result (IsVersionAtCut key.now work.now) }
     ensures err { within S.Store tx.old tx.new (Errs HoldNoWorks) result }
 {
     let rows = answer(
@@ -126,8 +125,7 @@ fn choose_work<S: Alter>(
     work: &WorkNumber,
     chosen: &mut Chosen,
 ) -> Result<(), RowFault>
-    ensures same_reference { tx.new.conn.ghost_name ≡ tx.old.conn.ghost_name }
-    ensures looks { within S.Store tx.old tx.new Looks result (λ db _. ChoosesWork key.now work.now chosen.old chosen.new db) }
+    ensures looks { Within S.Store tx.old tx.new Looks result (λ db _. ChoosesWork key.now work.now chosen.old chosen.new db) }
     ensures err { within S.Store tx.old tx.new (Errs HoldNoWorks) result }
 {
     let version = version_at(tx, key, work)?;
@@ -142,8 +140,7 @@ pub(crate) fn chosen_of<S: Alter>(
     key: &TransmissionKey,
     works: &[WorkNumber],
 ) -> Result<Chosen, RowFault>
-    ensures same_reference { tx.new.conn.ghost_name ≡ tx.old.conn.ghost_name }
-    ensures looks { within S.Store tx.old tx.new Looks result (ChoosesWorks key.now works.now) }
+    ensures looks { Within S.Store tx.old tx.new Looks result (ChoosesWorks key.now works.now) }
     ensures err { within S.Store tx.old tx.new (Errs HoldNoWorks) result }
 {
     let mut chosen = Chosen::new(alloc);

@@ -7,7 +7,7 @@ ghost use Rattle.society_closings.specs.Closings.{AddsOrder, ClosesWith, Marks, 
 ghost use Rattle.society_book.specs.DerivedRows.{credit_row};
 ghost use Rattle.work_ids.specs.Account.{account_text};
 ghost use Rattle.society_book.specs.Steps.{Does, DoesOpen, Makes};
-ghost use Rattle.society_rows.specs.Between.{within};
+ghost use Rattle.society_rows.specs.Between.{Within};
 ghost use Rattle.society_book.specs.Items.{bytes_of_each, account_texts};
 
 use crate::totals::totals_of;
@@ -132,8 +132,7 @@ fn add_balances<S: Alter>(
     tx: &mut Transaction<'_, S>,
     credits: &[Credit],
 ) -> Result<(), RowFault>
-    ensures same_reference { tx.new.conn.ghost_name ≡ tx.old.conn.ghost_name }
-    ensures does { within S.Store tx.old tx.new Does result (λ before after _. AddsEach credits.now before after) }
+    ensures does { Within S.Store tx.old tx.new Does result (λ before after _. AddsEach credits.now before after) }
 {
     for credit in credits {
         let account = text_of(alloc, &credit.account)?;
@@ -144,8 +143,7 @@ fn add_balances<S: Alter>(
 
 // Marks a pool as one of the mechanical right, where it pays this one.
 fn add_mark<S: Alter>(tx: &mut Transaction<'_, S>, pool: u32, kind: Kind) -> Result<(), RowFault>
-    ensures same_reference { tx.new.conn.ghost_name ≡ tx.old.conn.ghost_name }
-    ensures does { within S.Store tx.old tx.new Does result (λ before after _. Marks pool kind before after) }
+    ensures does { Within S.Store tx.old tx.new Does result (λ before after _. Marks pool kind before after) }
 {
     match kind {
         Kind::Performing => Ok(()),
@@ -161,8 +159,7 @@ fn add_order<S: Alter>(
     cuts: &[PoolCutRow<'_>],
     paid: &[PoolReturnRow<'_>],
 ) -> Result<(), RowFault>
-    ensures same_reference { tx.new.conn.ghost_name ≡ tx.old.conn.ghost_name }
-    ensures does { within S.Store tx.old tx.new DoesOpen result
+    ensures does { Within S.Store tx.old tx.new DoesOpen result
         (Makes (AddsOrder (pool_values pool.now) (map pool_cut_values cuts.now) (map pool_return_values paid.now) (marks_of pool.now.pool kind))) }
 {
     add(tx, NewRows::Pool(pool))?;
@@ -178,8 +175,7 @@ fn pay_out<S: Alter>(
     lines: &[CreditRow<'_>],
     credits: &[Credit],
 ) -> Result<(), RowFault>
-    ensures same_reference { tx.new.conn.ghost_name ≡ tx.old.conn.ghost_name }
-    ensures does { within S.Store tx.old tx.new Does result (λ before after _. PaysOut (map credit_values lines.now) credits.now before after) }
+    ensures does { Within S.Store tx.old tx.new Does result (λ before after _. PaysOut (map credit_values lines.now) credits.now before after) }
 {
     add_all(tx, lines)?;
     add_balances(alloc, tx, credits)
@@ -193,8 +189,7 @@ pub(crate) fn write_pool<S: Alter>(
     order: &PoolOrder,
     credits: &[Credit],
 ) -> Result<(), RowFault>
-    ensures same_reference { tx.new.conn.ghost_name ≡ tx.old.conn.ghost_name }
-    ensures does { within S.Store tx.old tx.new DoesOpen result (λ before after _. ClosesWith pool order.now credits.now before after) }
+    ensures does { Within S.Store tx.old tx.new DoesOpen result (λ before after _. ClosesWith pool order.now credits.now before after) }
 {
     let cuts = cut_rows(alloc, pool, order.cut())?;
     let paid = paid_rows(alloc, pool, order.returns())?;

@@ -3,7 +3,7 @@ ghost use Rattle.std.specs.Prelude.{◌≡◌, IfErr, option_map};
 ghost use Rattle.society_book.specs.Errors.{Blames};
 ghost use Rattle.society_book.specs.Steps.{Looks};
 ghost use Rattle.society_core.specs.Points.{is_tallied};
-ghost use Rattle.society_rows.specs.Between.{within};
+ghost use Rattle.society_rows.specs.Between.{Within, within};
 ghost use Rattle.society_rows.specs.Effects.{Errs};
 ghost use Rattle.society_closings.specs.Blamed.{LackChosen, LackCut, LackNumber, LackSender, LackSenders};
 ghost use Rattle.society_book.specs.Readable.{ShowTransmission};
@@ -56,8 +56,7 @@ fn add_transmission<S: Alter>(
     weighed: Option<&WeighedWorks>,
     candidates: &mut Vec<Candidate>,
 ) -> Result<(), RowFault>
-    ensures same_reference { tx.new.conn.ghost_name ≡ tx.old.conn.ghost_name }
-    ensures looks { within S.Store tx.old tx.new Looks result (λ db _. AddsOfTransmission weighing.now key.now number chosen.now (option_map (λ w. w.now) weighed.entry) candidates.old.items candidates.new.items db) }
+    ensures looks { Within S.Store tx.old tx.new Looks result (λ db _. AddsOfTransmission weighing.now key.now number chosen.now (option_map (λ w. w.now) weighed.entry) candidates.old.items candidates.new.items db) }
     ensures err { within S.Store tx.old tx.new (Errs (LackNumber weighing.now.office.now key.now number)) result }
 {
     let at = TransmissionKey {
@@ -92,8 +91,7 @@ fn add_transmissions<S: Alter>(
     weighed: Option<&WeighedWorks>,
     candidates: &mut Vec<Candidate>,
 ) -> Result<(), RowFault>
-    ensures same_reference { tx.new.conn.ghost_name ≡ tx.old.conn.ghost_name }
-    ensures looks { within S.Store tx.old tx.new Looks result (λ db _. AddsChosen weighing.now key.now chosen.now (option_map (λ w. w.now) weighed.entry) candidates.old.items candidates.new.items db) }
+    ensures looks { Within S.Store tx.old tx.new Looks result (λ db _. AddsChosen weighing.now key.now chosen.now (option_map (λ w. w.now) weighed.entry) candidates.old.items candidates.new.items db) }
     ensures err { within S.Store tx.old tx.new (Errs (LackChosen weighing.now.office.now key.now (is_tallied weighing.now.tally.now) chosen.now)) result }
 {
     let numbers = chosen.transmissions(weighing.alloc)?;
@@ -112,8 +110,7 @@ fn add_sender<S: Alter>(
     weighed: Option<&WeighedWorks>,
     candidates: &mut Vec<Candidate>,
 ) -> Result<(), RowFault>
-    ensures same_reference { tx.new.conn.ghost_name ≡ tx.old.conn.ghost_name }
-    ensures looks { within S.Store tx.old tx.new Looks result (λ db _. AddsOfSender weighing.now key.now named.now (option_map (λ w. w.now) weighed.entry) candidates.old.items candidates.new.items db) }
+    ensures looks { Within S.Store tx.old tx.new Looks result (λ db _. AddsOfSender weighing.now key.now named.now (option_map (λ w. w.now) weighed.entry) candidates.old.items candidates.new.items db) }
     ensures err { within S.Store tx.old tx.new (Errs (LackSender weighing.now.office.now key.now (is_tallied weighing.now.tally.now) named.now)) result }
 {
     let works = named.works_of(weighing.alloc, &key.sender)?;
@@ -129,8 +126,7 @@ fn candidates_of<S: Alter>(
     named: &NamedWorks,
     weighed: Option<&WeighedWorks>,
 ) -> Result<Vec<Candidate>, RowFault>
-    ensures same_reference { tx.new.conn.ghost_name ≡ tx.old.conn.ghost_name }
-    ensures looks { within S.Store tx.old tx.new Looks result (λ db candidates. AreForCut weighing.now cut.now named.now (option_map (λ w. w.now) weighed.entry) db candidates.items) }
+    ensures looks { Within S.Store tx.old tx.new Looks result (λ db candidates. AreForCut weighing.now cut.now named.now (option_map (λ w. w.now) weighed.entry) db candidates.items) }
     ensures err { within S.Store tx.old tx.new (Errs (LackSenders weighing.now.office.now cut.now (is_tallied weighing.now.tally.now) named.now)) result }
 {
     let mut candidates = Vec::new(weighing.alloc);
@@ -152,8 +148,7 @@ pub fn candidates_in<S: Alter>(
     order: &PoolOrder,
     works: &PoolWorks,
 ) -> Result<Vec<Candidate>, RowFault>
-    ensures same_reference { tx.new.conn.ghost_name ≡ tx.old.conn.ghost_name }
-    ensures looks { within S.Store tx.old tx.new Looks result (λ db candidates. AreForOrder kind office.now tally.now order.now works.now db candidates.items) }
+    ensures looks { Within S.Store tx.old tx.new Looks result (λ db candidates. AreForOrder kind office.now tally.now order.now works.now db candidates.items) }
     ensures err { within S.Store tx.old tx.new (Errs (LackCut office.now order.now tally.now works.now)) result }
 {
     let recordings = tally.recordings(alloc)?;

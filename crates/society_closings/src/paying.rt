@@ -6,7 +6,7 @@ ghost use Rattle.society_closings.specs.Closings.{ClosesPool, PaysAmong, PaysBy}
 ghost use Rattle.society_book.specs.Errors.{Blames};
 ghost use Rattle.society_book.specs.Shown.{AddsAlone, ShowBody};
 ghost use Rattle.society_book.specs.Steps.{DoesOpen, Looks};
-ghost use Rattle.society_rows.specs.Between.{between, within};
+ghost use Rattle.society_rows.specs.Between.{Within, between, within};
 ghost use Rattle.society_rows.specs.Effects.{Errs};
 ghost use Rattle.society_closings.specs.Blamed.{BelongNowhere, CannotPayAmong, LackReturn, LackReturns, LackTallied};
 ghost use Rattle.society_closings.specs.Readable.{ShowReturn};
@@ -50,8 +50,7 @@ fn add_return<S: Alter>(
     key: &ReturnKey,
     tally: &mut Tally,
 ) -> Result<(), RowFault>
-    ensures same_reference { tx.new.conn.ghost_name ≡ tx.old.conn.ghost_name }
-    ensures looks { within S.Store tx.old tx.new Looks result (λ db _. TalliesReturn key.now tally.old tally.new db) }
+    ensures looks { Within S.Store tx.old tx.new Looks result (λ db _. TalliesReturn key.now tally.old tally.new db) }
     ensures err { within S.Store tx.old tx.new (Errs (LackReturn key.now)) result }
 {
     let rows = answer(
@@ -67,8 +66,7 @@ pub(crate) fn tally_of<S: Alter>(
     tx: &mut Transaction<'_, S>,
     returns: &[ReturnKey],
 ) -> Result<Tally, RowFault>
-    ensures same_reference { tx.new.conn.ghost_name ≡ tx.old.conn.ghost_name }
-    ensures looks { within S.Store tx.old tx.new Looks result (TalliesReturns returns.now) }
+    ensures looks { Within S.Store tx.old tx.new Looks result (TalliesReturns returns.now) }
     ensures err { within S.Store tx.old tx.new (Errs (LackReturns returns.now)) result }
 {
     let mut tally = Tally::new(alloc);
@@ -105,8 +103,7 @@ fn credits_for<S: Alter>(
     tally: &Tally,
     works: &PoolWorks,
 ) -> Result<Vec<Credit>, RowFault>
-    ensures same_reference { tx.new.conn.ghost_name ≡ tx.old.conn.ghost_name }
-    ensures looks { within S.Store tx.old tx.new Looks result (λ db credits. PaysTallied office.now order.now tally.now works.now db credits.items) }
+    ensures looks { Within S.Store tx.old tx.new Looks result (λ db credits. PaysTallied office.now order.now tally.now works.now db credits.items) }
     ensures err { within S.Store tx.old tx.new (Errs (LackTallied office.now order.now tally.now works.now)) result }
 {
     let candidates = candidates_in(alloc, order.kind(), tx, office, tally, order, works)?;
@@ -123,8 +120,7 @@ pub fn credits_in<S: Alter>(
     order: &PoolOrder,
     works: &PoolWorks,
 ) -> Result<Vec<Credit>, RowFault>
-    ensures same_reference { tx.new.conn.ghost_name ≡ tx.old.conn.ghost_name }
-    ensures looks { within S.Store tx.old tx.new Looks result (λ db credits. PaysAmong office.now order.now works.now db credits.items) }
+    ensures looks { Within S.Store tx.old tx.new Looks result (λ db credits. PaysAmong office.now order.now works.now db credits.items) }
     ensures err { within S.Store tx.old tx.new (Errs (CannotPayAmong office.now order.now works.now)) result }
     ensures kept { IsOrder order.now }
 {
@@ -139,8 +135,7 @@ fn credits_of_order<S: Alter>(
     office: &Office,
     order: &PoolOrder,
 ) -> Result<Vec<Credit>, RowFault>
-    ensures same_reference { tx.new.conn.ghost_name ≡ tx.old.conn.ghost_name }
-    ensures looks { within S.Store tx.old tx.new Looks result (λ db credits. PaysBy office.now order.now db credits.items) }
+    ensures looks { Within S.Store tx.old tx.new Looks result (λ db credits. PaysBy office.now order.now db credits.items) }
     ensures kept { IsOrder order.now }
 {
     let mut wanted = Wanted::new(alloc);
@@ -157,8 +152,7 @@ fn close_inside<S: Alter>(
     pool: PoolNumber,
     order: &PoolOrder,
 ) -> Result<(), RowFault>
-    ensures same_reference { tx.new.conn.ghost_name ≡ tx.old.conn.ghost_name }
-    ensures does { within S.Store tx.old tx.new DoesOpen result (λ before after _. ClosesPool office.now pool order.now before.trees after.trees × ⊤) }
+    ensures does { Within S.Store tx.old tx.new DoesOpen result (λ before after _. ClosesPool office.now pool order.now before.trees after.trees × ⊤) }
 {
     let credits = credits_of_order(alloc, tx, office, order)?;
     write_pool(alloc, tx, pool.value(), order, &credits)

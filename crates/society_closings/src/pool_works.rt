@@ -8,7 +8,7 @@ ghost use Rattle.society_book.specs.Readable.{IsVersionRow};
 ghost use Rattle.society_book.specs.Steps.{Looks};
 ghost use Rattle.society_closings.specs.Blamed.{HoldNoWorks};
 ghost use Rattle.society_closings.specs.Weighing.{AreLent, AreWorksWeighed};
-ghost use Rattle.society_rows.specs.Between.{within};
+ghost use Rattle.society_rows.specs.Between.{Within, within};
 ghost use Rattle.society_rows.specs.Effects.{Errs};
 
 use crate::wanted::Wanted;
@@ -56,8 +56,7 @@ fn add_transmissions_of<S: Alter>(
     work: &WorkNumber,
     keys: &mut BTreeSet<TransmissionKey>,
 ) -> Result<(), RowFault>
-    ensures same_reference { tx.new.conn.ghost_name ≡ tx.old.conn.ghost_name }
-    ensures looks { within S.Store tx.old tx.new Looks result (λ _ _. ⊤) }
+    ensures looks { Within S.Store tx.old tx.new Looks result (λ _ _. ⊤) }
     ensures err { within S.Store tx.old tx.new (Errs HoldNoWorks) result }
 {
     let rows = answer(tx, Question::Versions(sender.as_bytes(), work.as_bytes()))?;
@@ -70,8 +69,7 @@ fn transmissions_of<S: Alter>(
     tx: &mut Transaction<'_, S>,
     works: &[(SenderKey, WorkNumber)],
 ) -> Result<Vec<TransmissionKey>, RowFault>
-    ensures same_reference { tx.new.conn.ghost_name ≡ tx.old.conn.ghost_name }
-    ensures looks { within S.Store tx.old tx.new Looks result (λ _ _. ⊤) }
+    ensures looks { Within S.Store tx.old tx.new Looks result (λ _ _. ⊤) }
     ensures err { within S.Store tx.old tx.new (Errs HoldNoWorks) result }
 {
     let mut keys = BTreeSet::new(alloc);
@@ -120,9 +118,8 @@ impl PoolWorks {
         kind: Kind,
         wanted: &Wanted,
     ) -> Result<(), RowFault>
-        ensures same_reference { tx.new.conn.ghost_name ≡ tx.old.conn.ghost_name }
         ensures listed { self.new.listed ≡ self.old.listed }
-        ensures looks { within S.Store tx.old tx.new Looks result (λ db _. AreWorksWeighed office.now db self.old → AreWorksWeighed office.now db self.new) }
+        ensures looks { Within S.Store tx.old tx.new Looks result (λ db _. AreWorksWeighed office.now db self.old → AreWorksWeighed office.now db self.new) }
         ensures err { within S.Store tx.old tx.new (Errs HoldNoWorks) result }
     {
         let works = self.listed.works(alloc)?;

@@ -5,7 +5,7 @@ ghost use Rattle.std.specs.List.{list_any};
 ghost use Rattle.society_core.specs.Keys.{bytes_cmp};
 ghost use Rattle.society_core.specs.Orders.{IsOrder};
 ghost use Rattle.society_core.specs.Points.{is_tallied};
-ghost use Rattle.society_rows.specs.Between.{within};
+ghost use Rattle.society_rows.specs.Between.{Within, within};
 ghost use Rattle.society_rows.specs.Effects.{Errs};
 ghost use Rattle.society_book.specs.Steps.{Looks};
 ghost use Rattle.society_closings.specs.Blamed.{HoldNoWorks, LackReturns};
@@ -80,10 +80,9 @@ impl Wanted {
         tx: &mut Transaction<'_, S>,
         order: &PoolOrder,
     ) -> Result<Tally, RowFault>
-        ensures same_reference { tx.new.conn.ghost_name ≡ tx.old.conn.ghost_name }
         ensures more { OnOk result (WantsMore self.old self.new) }
         ensures wants { IfOk result (λ tally. Wants self.new order.now.cut (is_tallied tally)) }
-        ensures looks { within S.Store tx.old tx.new Looks result (TalliesOrder order.now) }
+        ensures looks { Within S.Store tx.old tx.new Looks result (TalliesOrder order.now) }
         ensures err { within S.Store tx.old tx.new (Errs (LackReturns order.now.returns)) result }
         ensures kept { IsOrder order.now }
     {
@@ -112,8 +111,7 @@ impl Wanted {
         alloc: Global,
         tx: &mut Transaction<'_, S>,
     ) -> Result<WorksByRecording, RowFault>
-        ensures same_reference { tx.new.conn.ghost_name ≡ tx.old.conn.ghost_name }
-        ensures looks { within S.Store tx.old tx.new Looks result (ListsWorks (wants self.now)) }
+        ensures looks { Within S.Store tx.old tx.new Looks result (ListsWorks (wants self.now)) }
         ensures err { within S.Store tx.old tx.new (Errs HoldNoWorks) result }
     {
         let senders = self.senders(alloc)?;

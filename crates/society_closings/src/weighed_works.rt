@@ -10,7 +10,7 @@ ghost use Rattle.society_core.specs.Points.{is_tallied};
 ghost use Rattle.society_book.specs.Steps.{Looks};
 ghost use Rattle.society_closings.specs.Blamed.{HoldNoWorks};
 ghost use Rattle.society_closings.specs.Weighing.{AreWeighed, KeepsShown, LendsVersions, StaysWeighed};
-ghost use Rattle.society_rows.specs.Between.{within};
+ghost use Rattle.society_rows.specs.Between.{Within, within};
 ghost use Rattle.society_rows.specs.Effects.{Errs};
 
 use crate::weighing::{WeighedVersion, weigh_shown};
@@ -104,9 +104,8 @@ impl WeighedWorks {
         tx: &mut Transaction<'_, S>,
         key: &TransmissionKey,
     ) -> Result<(), RowFault>
-        ensures same_reference { tx.new.conn.ghost_name ≡ tx.old.conn.ghost_name }
         ensures recordings { self.new.recordings ≡ self.old.recordings }
-        ensures looks { within S.Store tx.old tx.new Looks result (λ db _. StaysWeighed weighing.now db self.old self.new) }
+        ensures looks { Within S.Store tx.old tx.new Looks result (λ db _. StaysWeighed weighing.now db self.old self.new) }
         ensures err { within S.Store tx.old tx.new (Errs HoldNoWorks) result }
     {
         let rows = answer(
@@ -124,9 +123,8 @@ impl WeighedWorks {
         tx: &mut Transaction<'_, S>,
         keys: &[TransmissionKey],
     ) -> Result<(), RowFault>
-        ensures same_reference { tx.new.conn.ghost_name ≡ tx.old.conn.ghost_name }
         ensures recordings { self.new.recordings ≡ self.old.recordings }
-        ensures looks { within S.Store tx.old tx.new Looks result (λ db _. StaysWeighed weighing.now db self.old self.new) }
+        ensures looks { Within S.Store tx.old tx.new Looks result (λ db _. StaysWeighed weighing.now db self.old self.new) }
         ensures err { within S.Store tx.old tx.new (Errs HoldNoWorks) result }
     {
         for key in keys {
@@ -146,8 +144,7 @@ pub(crate) fn weighed_in<S: Alter>(
     recordings: &[Isrc],
     keys: &[TransmissionKey],
 ) -> Result<WeighedWorks, RowFault>
-    ensures same_reference { tx.new.conn.ghost_name ≡ tx.old.conn.ghost_name }
-    ensures looks { within S.Store tx.old tx.new Looks result (λ db weighed. AreWeighed kind office.now (contains bytes_cmp weighed.recordings) db weighed) }
+    ensures looks { Within S.Store tx.old tx.new Looks result (λ db weighed. AreWeighed kind office.now (contains bytes_cmp weighed.recordings) db weighed) }
     ensures err { within S.Store tx.old tx.new (Errs HoldNoWorks) result }
 {
     let tally = played_once(alloc, recordings)?;

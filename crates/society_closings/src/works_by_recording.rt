@@ -4,7 +4,7 @@ ghost use Rattle.std.specs.BTreeSet.{contains};
 ghost use Rattle.society_core.specs.Keys.{bytes_cmp};
 ghost use Rattle.std.specs.List.{AllByRecursion, list_any};
 ghost use Rattle.work_ids.specs.Isrc.{is_isrc};
-ghost use Rattle.society_rows.specs.Between.{within};
+ghost use Rattle.society_rows.specs.Between.{Within, within};
 ghost use Rattle.society_rows.specs.Effects.{Errs};
 ghost use Rattle.society_rows.specs.Rows.{recording_values};
 ghost use Rattle.society_book.specs.Errors.{Blames};
@@ -168,9 +168,8 @@ impl WorksByRecording {
         sender: &SenderKey,
         wanted: &BTreeSet<Isrc>,
     ) -> Result<(), RowFault>
-        ensures same_reference { tx.new.conn.ghost_name ≡ tx.old.conn.ghost_name }
         ensures more { OnOk result (ListsMore self.old self.new) }
-        ensures looks { within S.Store tx.old tx.new Looks result (λ db _. ListsSender (bytes_eq sender.now) wanted.now self.new db) }
+        ensures looks { Within S.Store tx.old tx.new Looks result (λ db _. ListsSender (bytes_eq sender.now) wanted.now self.new db) }
         ensures err { within S.Store tx.old tx.new (Errs HoldNoWorks) result }
     {
         let rows = answer(tx, Question::SenderRecordings(sender.as_bytes()))?;

@@ -9,7 +9,7 @@ ghost use Rattle.society_opening.specs.OpenSteps.{DeniesIn, FailsIn, TellsIn};
 ghost use Rattle.society_opening.specs.TakingOver.{DoesOver, IsOffice};
 ghost use Rattle.society_opening.specs.declared.open_fault.OpenFault.TheVariants as fault;
 ghost use Rattle.society_opening.specs.declared.open_fault.OpenFault.TheVariants.{Damaged, Empty};
-ghost use Rattle.society_rows.specs.Between.{within};
+ghost use Rattle.society_rows.specs.Between.{Within, within};
 ghost use Rattle.society_rows.specs.Layouts.{HasTable};
 ghost use Rattle.society_rows.specs.Stored.{AreNumbered, HasLayout};
 ghost use Rattle.society_rows.specs.declared.tables.TableName.TheVariants.{Office as OfficeTable};
@@ -53,8 +53,7 @@ pub(crate) fn office_agrees<S: Alter>(
     office: &Office,
     number: u32,
 ) -> Result<(), OpenFault>
-    ensures same_reference { tx.new.conn.ghost_name ≡ tx.old.conn.ghost_name }
-    ensures finds { within S.Store tx.old tx.new (DoesOver (HasTable OfficeTable)) result (IsOffice office.now number) }
+    ensures finds { Within S.Store tx.old tx.new (DoesOver (HasTable OfficeTable)) result (IsOffice office.now number) }
     ensures err { within S.Store tx.old tx.new (TellsIn (HasTable OfficeTable) number office.now) result }
     ensures medium { within S.Store tx.old tx.new (FailsIn (HasTable OfficeTable)) result }
     ensures other { IfErr result (λ e. e ≢ Damaged) }
@@ -66,8 +65,7 @@ pub(crate) fn office_agrees<S: Alter>(
 
 // That each row of a table has a whole number as its rowid; else `Damaged`.
 fn check_numbers<S: Alter>(tx: &mut Transaction<'_, S>, table: TableName) -> Result<(), AuditFault>
-    ensures same_reference { tx.new.conn.ghost_name ≡ tx.old.conn.ghost_name }
-    ensures examined { within S.Store tx.old tx.new (Examines (λ db. AreNumbered (table_called table) db → ⊥)) result (λ db _. AreNumbered (table_called table) db) }
+    ensures examined { Within S.Store tx.old tx.new (Examines (λ db. AreNumbered (table_called table) db → ⊥)) result (λ db _. AreNumbered (table_called table) db) }
 {
     match are_numbered(tx, table) {
         Ok(true) => Ok(()),
@@ -78,8 +76,7 @@ fn check_numbers<S: Alter>(tx: &mut Transaction<'_, S>, table: TableName) -> Res
 
 // That what is put over another row has a whole number as its rowid; else `Damaged`.
 fn fronts_and_balances_numbered<S: Alter>(tx: &mut Transaction<'_, S>) -> Result<(), AuditFault>
-    ensures same_reference { tx.new.conn.ghost_name ≡ tx.old.conn.ghost_name }
-    ensures examined { within S.Store tx.old tx.new (Examines (λ db. IsNumbered db → ⊥)) result (λ db _. IsNumbered db) }
+    ensures examined { Within S.Store tx.old tx.new (Examines (λ db. IsNumbered db → ⊥)) result (λ db _. IsNumbered db) }
 {
     check_numbers(tx, TableName::Fronts)?;
     check_numbers(tx, TableName::Balances)
@@ -92,8 +89,7 @@ pub(crate) fn examine_whole<S: Alter>(
     tx: &mut Transaction<'_, S>,
     office: &Office,
 ) -> Result<(), AuditFault>
-    ensures same_reference { tx.new.conn.ghost_name ≡ tx.old.conn.ghost_name }
-    ensures examined { within S.Store tx.old tx.new (Examines (HoldsNot office.now)) result (λ db _. IsRegistered office.now db → HoldsOwnBook office.now db) }
+    ensures examined { Within S.Store tx.old tx.new (Examines (HoldsNot office.now)) result (λ db _. IsRegistered office.now db → HoldsOwnBook office.now db) }
 {
     fronts_and_balances_numbered(tx)?;
     audit(alloc, tx, office)
@@ -105,8 +101,7 @@ pub(crate) fn examine_office<S: Alter>(
     tx: &mut Transaction<'_, S>,
     office: &Office,
 ) -> Result<(), OpenFault>
-    ensures same_reference { tx.new.conn.ghost_name ≡ tx.old.conn.ghost_name }
-    ensures does { within S.Store tx.old tx.new (DoesOver HasLayout) result (λ before after _. (after ≡ before) × HoldsOwnBook office.now before.trees) }
+    ensures does { Within S.Store tx.old tx.new (DoesOver HasLayout) result (λ before after _. (after ≡ before) × HoldsOwnBook office.now before.trees) }
     ensures err { within S.Store tx.old tx.new (TellsIn HasLayout 3 office.now) result }
     ensures damaged { within S.Store tx.old tx.new (DeniesIn HasLayout (HoldsOwnBook office.now)) result }
     ensures medium { within S.Store tx.old tx.new (FailsIn HasLayout) result }

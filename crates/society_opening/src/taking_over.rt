@@ -1,7 +1,7 @@
 //! How the tables of an older layout become those of layout 3.
 ghost use Rattle.std.specs.Prelude.{◌≡◌, ◌≢◌, IfErr};
 ghost use Rattle.book_derivation.specs.Deriving.{Derives};
-ghost use Rattle.society_rows.specs.Between.{between, within};
+ghost use Rattle.society_rows.specs.Between.{Within, between, within};
 ghost use Rattle.society_rows.specs.Layouts.{HasOlder, number_of};
 ghost use Rattle.society_opening.specs.Older.{HoldsOlder};
 ghost use Rattle.society_opening.specs.TakingOver.{CompletesRaised, DoesOver, FaultsOver, LacksRaised, TakesNamed, TakesOffice};
@@ -25,8 +25,7 @@ fn complete<S: Alter>(
     office: &Office,
     layout: OlderLayout,
 ) -> Result<(), AuditFault>
-    ensures same_reference { tx.new.conn.ghost_name ≡ tx.old.conn.ghost_name }
-    ensures derives { within S.Store tx.old tx.new (Derives (LacksRaised office.now layout)) result (λ before after _. CompletesRaised office.now layout before after) }
+    ensures derives { Within S.Store tx.old tx.new (Derives (LacksRaised office.now layout)) result (λ before after _. CompletesRaised office.now layout before after) }
 {
     match layout {
         OlderLayout::First => derive(alloc, tx, office),
@@ -41,8 +40,7 @@ fn take_inside<S: Alter>(
     office: &Office,
     layout: OlderLayout,
 ) -> Result<(), AuditFault>
-    ensures same_reference { tx.new.conn.ghost_name ≡ tx.old.conn.ghost_name }
-    ensures does { within S.Store tx.old tx.new (DoesOver (HasOlder layout)) result (TakesNamed office.now layout) }
+    ensures does { Within S.Store tx.old tx.new (DoesOver (HasOlder layout)) result (TakesNamed office.now layout) }
     ensures faults { within S.Store tx.old tx.new (FaultsOver office.now layout) result }
 {
     match raise_inside(tx, layout) {
@@ -58,8 +56,7 @@ pub(crate) fn take_office<S: Alter>(
     office: &Office,
     layout: OlderLayout,
 ) -> Result<(), OpenFault>
-    ensures same_reference { tx.new.conn.ghost_name ≡ tx.old.conn.ghost_name }
-    ensures does { within S.Store tx.old tx.new (DoesOver (HasOlder layout)) result (TakesOffice office.now layout) }
+    ensures does { Within S.Store tx.old tx.new (DoesOver (HasOlder layout)) result (TakesOffice office.now layout) }
     ensures err { within S.Store tx.old tx.new (TellsIn (HasOlder layout) (number_of layout) office.now) result }
     ensures damaged { within S.Store tx.old tx.new (DeniesIn (HasOlder layout) (HoldsOlder office.now layout)) result }
     ensures medium { within S.Store tx.old tx.new (FailsIn (HasOlder layout)) result }

@@ -11,7 +11,7 @@ ghost use Rattle.society_rows.specs.Forms.{IsRead, balance_forms};
 ghost use Rattle.society_rows.specs.Layout.{balances};
 ghost use Rattle.society_rows.specs.Rows.{balance_values};
 ghost use Rattle.society_rows.specs.Stored.{HasLayout, Puts};
-ghost use Rattle.society_rows.specs.Between.{within};
+ghost use Rattle.society_rows.specs.Between.{Within, within};
 
 use crate::reading::{integer, text};
 use crate::shapes::{Rows, TableShape};
@@ -75,8 +75,7 @@ impl<'a> BalanceRow<'a> {
 
 // Puts a balance, in place of the one that is there under its key.
 fn put_balance<S: Alter>(tx: &mut Transaction<'_, S>, row: &BalanceRow<'_>) -> Result<(), RowFault>
-    ensures same_reference { tx.new.conn.ghost_name ≡ tx.old.conn.ghost_name }
-    ensures written { within S.Store tx.old tx.new Writes result
+    ensures written { Within S.Store tx.old tx.new Writes result
         (Puts balances (balance_values row.now)) }
     ensures whole { within S.Store tx.old tx.new IsAllOrNothing result }
     ensures err { within S.Store tx.old tx.new OnlyFails result }
@@ -93,8 +92,7 @@ pub(crate) fn units_of<S: Alter>(
     tx: &mut Transaction<'_, S>,
     account: &[u8],
 ) -> Result<i64, RowFault>
-    ensures same_reference { tx.new.conn.ghost_name ≡ tx.old.conn.ghost_name }
-    ensures read { within S.Store tx.old tx.new ReadsInside result
+    ensures read { Within S.Store tx.old tx.new ReadsInside result
         (HasUnits account.now) }
     ensures cause { within S.Store tx.old tx.new (λ old new. HasCleanDisk new → HasLayout old.now → IfErr result (HidesUnits account.now old.now.trees)) }
     ensures range { IfOk result (λ n. FitsSigned w64 n) }
@@ -113,8 +111,7 @@ pub fn add_units<S: Alter>(
     account: &[u8],
     units: i64,
 ) -> Result<(), RowFault>
-    ensures same_reference { tx.new.conn.ghost_name ≡ tx.old.conn.ghost_name }
-    ensures written { within S.Store tx.old tx.new Writes result
+    ensures written { Within S.Store tx.old tx.new Writes result
         (AddsUnits account.now units) }
     ensures whole { within S.Store tx.old tx.new (λ old new. HasLayout old.now → IsAllOrNothing old new result) }
     ensures cause { within S.Store tx.old tx.new (λ old new. HasCleanDisk new → HasLayout old.now → IfErr result (RefusesUnits account.now units old.now.trees)) }

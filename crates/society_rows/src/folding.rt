@@ -3,7 +3,7 @@ ghost use Rattle.std.specs.Prelude.{◌≡◌, IfErr, OnOk};
 ghost use Rattle.sqlite_value.specs.Order.{Row as SqlRow};
 ghost use Rattle.society_rows.specs.Folds.{ErrsByRun, HasTaken, IsRun, ReadsInside, StopsRun};
 ghost use Rattle.society_rows.specs.declared.fault.RowFault.TheVariants.{Unread};
-ghost use Rattle.society_rows.specs.Between.{within};
+ghost use Rattle.society_rows.specs.Between.{Within, within};
 
 use crate::{Question, RowFault, answer};
 use sqlite::{Alter, Row, Transaction};
@@ -32,8 +32,7 @@ pub fn fold_run<S: Alter, F: RowFold>(
     first: u32,
     into: &mut F,
 ) -> Result<(), RowFault>
-    ensures same_reference { tx.new.conn.ghost_name ≡ tx.old.conn.ghost_name }
-    ensures taken { within S.Store tx.old tx.new ReadsInside result
+    ensures taken { Within S.Store tx.old tx.new ReadsInside result
         (λ db _. HasTaken F.step (IsRun sender.now first db) into.old into.new) }
     ensures err { IfErr result
         (within S.Store tx.old tx.new (StopsRun F.step F.refusal) sender.now first into.old) }

@@ -7,7 +7,7 @@ ghost use Rattle.society_rows.specs.Forms.{IsRead, front_forms};
 ghost use Rattle.society_rows.specs.Layout.{fronts};
 ghost use Rattle.society_rows.specs.Rows.{front_values};
 ghost use Rattle.society_rows.specs.Stored.{Puts};
-ghost use Rattle.society_rows.specs.Between.{within};
+ghost use Rattle.society_rows.specs.Between.{Within, within};
 
 use crate::RowFault;
 use crate::reading::{integer, text, whole};
@@ -78,8 +78,7 @@ impl<'a> FrontRow<'a> {
 
 /// Puts a front, in place of the one that is there under its key.
 pub fn put_front<S: Alter>(tx: &mut Transaction<'_, S>, row: &FrontRow<'_>) -> Result<(), RowFault>
-    ensures same_reference { tx.new.conn.ghost_name ≡ tx.old.conn.ghost_name }
-    ensures written { within S.Store tx.old tx.new Writes result
+    ensures written { Within S.Store tx.old tx.new Writes result
         (Puts fronts (front_values row.now)) }
     ensures whole { within S.Store tx.old tx.new IsAllOrNothing result }
     ensures err { within S.Store tx.old tx.new OnlyFails result }

@@ -8,7 +8,7 @@ ghost use Rattle.society_rows.specs.Layouts.{HasFirst};
 ghost use Rattle.society_rows.specs.Raising.{Extends};
 ghost use Rattle.society_rows.specs.NewBook.{IsBare, IsEmptyBook, IsNewBook, Begins};
 ghost use Rattle.society_rows.specs.Rows.{office_values};
-ghost use Rattle.society_rows.specs.Between.{between, within};
+ghost use Rattle.society_rows.specs.Between.{Within, between, within};
 
 use crate::new_rows::{NewRows, add};
 use crate::statement::run;
@@ -23,8 +23,7 @@ pub(crate) fn make_tables<S: Alter>(
 ) -> Result<(), RowFault>
     requires start { (from ≡ 0) ⊎ (6 ≤ from) }
     requires some { from ≤ 14 }
-    ensures same_reference { tx.new.conn.ghost_name ≡ tx.old.conn.ghost_name }
-    ensures made { within S.Store tx.old tx.new (WritesOver (HasFirst from)) result
+    ensures made { Within S.Store tx.old tx.new (WritesOver (HasFirst from)) result
         (Extends from) }
     ensures err { within S.Store tx.old tx.new (OnlyFailsInside (HasFirst from)) result }
     ensures blamed { within S.Store tx.old tx.new (BlamesMediumOver (HasFirst from)) result }
@@ -37,8 +36,7 @@ pub(crate) fn make_tables<S: Alter>(
 
 /// Makes the tables of layout 3 in a database that has none.
 pub(crate) fn lay_out<S: Alter>(tx: &mut Transaction<'_, S>) -> Result<(), RowFault>
-    ensures same_reference { tx.new.conn.ghost_name ≡ tx.old.conn.ghost_name }
-    ensures made { within S.Store tx.old tx.new (WritesOver IsBare) result
+    ensures made { Within S.Store tx.old tx.new (WritesOver IsBare) result
         (λ _. IsEmptyBook) }
     ensures err { within S.Store tx.old tx.new (OnlyFailsInside IsBare) result }
     ensures blamed { within S.Store tx.old tx.new (BlamesMediumOver IsBare) result }
@@ -48,8 +46,7 @@ pub(crate) fn lay_out<S: Alter>(tx: &mut Transaction<'_, S>) -> Result<(), RowFa
 
 // Makes the tables and writes the row of the office.
 fn begin_book<S: Alter>(tx: &mut Transaction<'_, S>, office: &OfficeRow<'_>) -> Result<(), RowFault>
-    ensures same_reference { tx.new.conn.ghost_name ≡ tx.old.conn.ghost_name }
-    ensures begun { within S.Store tx.old tx.new (WritesOver IsBare) result
+    ensures begun { Within S.Store tx.old tx.new (WritesOver IsBare) result
         (λ _. Begins (office_values office.now)) }
     ensures err { within S.Store tx.old tx.new (OnlyFailsInside IsBare) result }
     ensures blamed { within S.Store tx.old tx.new (BlamesMediumOver IsBare) result }

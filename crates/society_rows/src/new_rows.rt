@@ -5,7 +5,7 @@ ghost use Rattle.society_rows.specs.Effects.{BlamesMedium, IsAllOrNothing, OnlyF
 ghost use Rattle.society_rows.specs.NewRows.{rows_added, insert_text, one_after_another};
 ghost use Rattle.society_rows.specs.Stored.{Adds};
 ghost use Rattle.society_rows.specs.TableNames.{table_called};
-ghost use Rattle.society_rows.specs.Between.{within};
+ghost use Rattle.society_rows.specs.Between.{Within, within};
 
 use crate::statement::run;
 use crate::{
@@ -75,8 +75,7 @@ fn add_by<S: Alter>(
     values: &[ValueRef<'_>],
 ) -> Result<(), RowFault>
     requires { bound values.now ≡ one_after_another (rows_added rows).rows }
-    ensures same_reference { tx.new.conn.ghost_name ≡ tx.old.conn.ghost_name }
-    ensures written { within S.Store tx.old tx.new Writes result
+    ensures written { Within S.Store tx.old tx.new Writes result
         (Adds (table_called (rows_added rows.entry).table) (rows_added rows.entry).rows) }
     ensures whole { within S.Store tx.old tx.new IsAllOrNothing result }
     ensures err { within S.Store tx.old tx.new OnlyFails result }
@@ -88,8 +87,7 @@ fn add_by<S: Alter>(
 /// Adds rows, whose keys have to be free: all, or none.
 #[tactic(auto, using(crate::proofs::lemmas::changes::Columns::bound_pair))]
 pub fn add<S: Alter>(tx: &mut Transaction<'_, S>, rows: NewRows<'_>) -> Result<(), RowFault>
-    ensures same_reference { tx.new.conn.ghost_name ≡ tx.old.conn.ghost_name }
-    ensures written { within S.Store tx.old tx.new Writes result
+    ensures written { Within S.Store tx.old tx.new Writes result
         (Adds (table_called (rows_added rows.entry).table) (rows_added rows.entry).rows) }
     ensures whole { within S.Store tx.old tx.new IsAllOrNothing result }
     ensures err { within S.Store tx.old tx.new OnlyFails result }

@@ -8,7 +8,7 @@ ghost use Rattle.society_rows.specs.Layouts.{HasTable};
 ghost use Rattle.society_rows.specs.Reads.{ReadsOver};
 ghost use Rattle.society_rows.specs.Stored.{AreNumbered};
 ghost use Rattle.society_rows.specs.TableNames.{table_called};
-ghost use Rattle.society_rows.specs.Between.{within};
+ghost use Rattle.society_rows.specs.Between.{Within, within};
 
 use crate::statement::select;
 use crate::tables::shape_of;
@@ -36,8 +36,7 @@ pub fn are_numbered<S: Alter>(
     tx: &mut Transaction<'_, S>,
     table: TableName,
 ) -> Result<bool, RowFault>
-    ensures same_reference { tx.new.conn.ghost_name ≡ tx.old.conn.ghost_name }
-    ensures read { within S.Store tx.old tx.new (ReadsOver (HasTable table)) result
+    ensures read { Within S.Store tx.old tx.new (ReadsOver (HasTable table)) result
         (λ db yes. IsTrue yes ↔ AreNumbered (table_called table) db) }
     ensures err { within S.Store tx.old tx.new (OnlyFailsOver (HasTable table)) result }
     ensures medium { within S.Store tx.old tx.new (ErrsByMediumOver (HasTable table)) result }

@@ -4,7 +4,7 @@ ghost use Rattle.society_rows.specs.Effects.{BlamesMedium, FailsWhole, LeavesFir
 ghost use Rattle.society_rows.specs.Stored.{Adds, HasLayout};
 ghost use Rattle.society_rows.specs.NewRows.{rows_added};
 ghost use Rattle.society_rows.specs.TableNames.{table_called};
-ghost use Rattle.society_rows.specs.Between.{within};
+ghost use Rattle.society_rows.specs.Between.{Within, within};
 
 use crate::RowFault;
 use crate::new_rows::{NewRows, add};
@@ -35,8 +35,7 @@ pub trait PairedRow {
 // Adds up to two rows, all or none.
 fn add_part<S: Alter, R: PairedRow>(tx: &mut Transaction<'_, S>, part: &[R]) -> Result<(), RowFault>
     requires { length part.now ≤ 2 }
-    ensures same_reference { tx.new.conn.ghost_name ≡ tx.old.conn.ghost_name }
-    ensures written { within S.Store tx.old tx.new Writes result (Adds R.table (map R.values part.now)) }
+    ensures written { Within S.Store tx.old tx.new Writes result (Adds R.table (map R.values part.now)) }
     ensures whole { within S.Store tx.old tx.new FailsWhole result }
     ensures err { within S.Store tx.old tx.new OnlyFails result }
     ensures blamed { within S.Store tx.old tx.new BlamesMedium result }
@@ -53,8 +52,7 @@ pub fn add_all<S: Alter, R: PairedRow>(
     tx: &mut Transaction<'_, S>,
     rows: &[R],
 ) -> Result<(), RowFault>
-    ensures same_reference { tx.new.conn.ghost_name ≡ tx.old.conn.ghost_name }
-    ensures written { within S.Store tx.old tx.new Writes result (Adds R.table (map R.values rows.now)) }
+    ensures written { Within S.Store tx.old tx.new Writes result (Adds R.table (map R.values rows.now)) }
     ensures left { within S.Store tx.old tx.new LeavesFirst result (λ count. Adds R.table (map R.values (take count rows.now))) }
     ensures err { within S.Store tx.old tx.new (OnlyFailsInside HasLayout) result }
     ensures blamed { within S.Store tx.old tx.new BlamesMedium result }

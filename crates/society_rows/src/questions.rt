@@ -5,7 +5,7 @@ ghost use Rattle.society_rows.specs.Effects.{ErrsByMedium, OnlyFails};
 ghost use Rattle.society_rows.specs.Questions.{RowsAnswer, Asks};
 ghost use Rattle.society_rows.specs.QuestionTexts.{question_params, question_text};
 ghost use Rattle.society_rows.specs.Reads.{Reads};
-ghost use Rattle.society_rows.specs.Between.{between, within};
+ghost use Rattle.society_rows.specs.Between.{Within, between, within};
 
 use crate::derived_tables::{DerivedTable, first_column_of};
 use crate::statement::select;
@@ -110,8 +110,7 @@ fn answer_by<S: Alter>(
     params: &[ValueRef<'_>],
 ) -> Result<Vec<Row>, RowFault>
     requires { bound params.now ≡ question_params question }
-    ensures same_reference { tx.new.conn.ghost_name ≡ tx.old.conn.ghost_name }
-    ensures read { within S.Store tx.old tx.new Reads result
+    ensures read { Within S.Store tx.old tx.new Reads result
         (λ db rows. RowsAnswer question.entry db rows.items) }
     ensures err { within S.Store tx.old tx.new OnlyFails result }
     ensures medium { within S.Store tx.old tx.new ErrsByMedium result }
@@ -124,8 +123,7 @@ pub fn answer<S: Alter>(
     tx: &mut Transaction<'_, S>,
     question: Question<'_>,
 ) -> Result<Vec<Row>, RowFault>
-    ensures same_reference { tx.new.conn.ghost_name ≡ tx.old.conn.ghost_name }
-    ensures read { within S.Store tx.old tx.new Reads result
+    ensures read { Within S.Store tx.old tx.new Reads result
         (λ db rows. RowsAnswer question.entry db rows.items) }
     ensures err { within S.Store tx.old tx.new OnlyFails result }
     ensures medium { within S.Store tx.old tx.new ErrsByMedium result }

@@ -3,7 +3,7 @@ ghost use Rattle.std.specs.Prelude.{◌≡◌};
 ghost use Rattle.society_rows.specs.Effects.{BlamesMedium, BlamesMediumOver, OnlyFails, OnlyFailsInside, Writes, WritesOver};
 ghost use Rattle.society_rows.specs.Layouts.{HasOlder};
 ghost use Rattle.society_rows.specs.Raising.{BecomesNewest, Renames};
-ghost use Rattle.society_rows.specs.Between.{within};
+ghost use Rattle.society_rows.specs.Between.{Within, within};
 
 use crate::layout::make_tables;
 use crate::office::LAYOUT;
@@ -14,8 +14,7 @@ use sqlite::{Alter, Transaction};
 
 // Says layout 3 in the row of the office.
 fn rename<S: Alter>(tx: &mut Transaction<'_, S>) -> Result<(), RowFault>
-    ensures same_reference { tx.new.conn.ghost_name ≡ tx.old.conn.ghost_name }
-    ensures renamed { within S.Store tx.old tx.new Writes result Renames }
+    ensures renamed { Within S.Store tx.old tx.new Writes result Renames }
     ensures err { within S.Store tx.old tx.new OnlyFails result }
     ensures blamed { within S.Store tx.old tx.new BlamesMedium result }
 {
@@ -28,8 +27,7 @@ pub fn raise_inside<S: Alter>(
     tx: &mut Transaction<'_, S>,
     from: OlderLayout,
 ) -> Result<(), RowFault>
-    ensures same_reference { tx.new.conn.ghost_name ≡ tx.old.conn.ghost_name }
-    ensures raised { within S.Store tx.old tx.new (WritesOver (HasOlder from)) result
+    ensures raised { Within S.Store tx.old tx.new (WritesOver (HasOlder from)) result
         (BecomesNewest from) }
     ensures err { within S.Store tx.old tx.new (OnlyFailsInside (HasOlder from)) result }
     ensures blamed { within S.Store tx.old tx.new (BlamesMediumOver (HasOlder from)) result }

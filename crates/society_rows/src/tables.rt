@@ -10,7 +10,7 @@ ghost use Rattle.society_rows.specs.Reads.{ReadsOver};
 ghost use Rattle.society_rows.specs.Shapes.{guards_shaped, refers_to, table_shaped};
 ghost use Rattle.society_rows.specs.TableNames.{create_text, listing_text, rowids_text};
 ghost use Rattle.society_rows.specs.declared.tables.TableName.TheVariants.{Office};
-ghost use Rattle.society_rows.specs.Between.{within};
+ghost use Rattle.society_rows.specs.Between.{Within, within};
 
 use crate::RowFault;
 use crate::balances::BALANCES;
@@ -113,8 +113,7 @@ pub fn all_rows<S: Alter>(
     tx: &mut Transaction<'_, S>,
     table: TableName,
 ) -> Result<Vec<Row>, RowFault>
-    ensures same_reference { tx.new.conn.ghost_name ≡ tx.old.conn.ghost_name }
-    ensures read { within S.Store tx.old tx.new (ReadsOver (HasTable table)) result
+    ensures read { Within S.Store tx.old tx.new (ReadsOver (HasTable table)) result
         (λ db rows. ListsAll table db rows.items) }
     ensures err { within S.Store tx.old tx.new (OnlyFailsOver (HasTable table)) result }
     ensures medium { within S.Store tx.old tx.new (ErrsByMediumOver (HasTable table)) result }

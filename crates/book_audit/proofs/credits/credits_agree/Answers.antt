@@ -1,5 +1,5 @@
 use Rattle.book_audit.specs.Examining.{IsNot}
-use Rattle.std.proofs.Common.{◌≡◌, Ok, Vec, refl, subst, sym}
+use Rattle.std.proofs.Common.{◌≡◌, Ok, Vec, refl, subst, sym, rules}
 use Rattle.std.specs.declared.alloc.Global.{Global}
 use Rattle.sqlite.specs.Held.{state}
 use Rattle.sqlite_trees.specs.Tree.{Trees}
@@ -13,53 +13,68 @@ use Rattle.book_audit.proofs.lemmas.credits.Finding.{has_pool, no_pool}
 use Rattle.book_audit.proofs.lemmas.credits.Payable.{payable}
 use Rattle.book_audit.proofs.credits.credits_agree.Goals as goal
 
-pub returns-in_err-credits-clause-examined : goal.returns-in_err-credits-clause-examined
-returns-in_err-credits-clause-examined g c =
-    let o = c.args.office.now in
-    let pool = c.args.pool in
-    let order = c.args.order.now in
-    let works = c.args.works.now in
-    let old = state g.S.Store c.args.tx.now.conn.now in
-    examines_not {X = Vec Credit Global} {Y = Vec Credit Global} (CannotPayAmong o order works) (HasNoPool o pool order works) old (state g.S.Store c.paid_by.new.tx.conn.now) c.in_err-credits.field-0.0 c.from_residual.result (λ db credits. PaysAmong o order works db credits.items) (FindsCredits o pool order works)
-    c.in_err-credits.ensures.examined c.from_residual.ensures.1
-    (λ cannot listed b holds is. let can = payable o b old.now.trees holds pool order is in cannot listed b can.0 can.2)
+pub returns-in_err-credits : goal.returns-in_err-credits
+returns-in_err-credits g c = record {
+  examined = record {
+    same_reference = search rules;
+    says =
+        let o = c.args.office.now in
+        let pool = c.args.pool in
+        let order = c.args.order.now in
+        let works = c.args.works.now in
+        let old = state g.S.Store c.args.tx.now.conn.now in
+        examines_not {X = Vec Credit Global} {Y = Vec Credit Global} (CannotPayAmong o order works) (HasNoPool o pool order works) old (state g.S.Store c.paid_by.new.tx.conn.now) c.in_err-credits.field-0.0 c.from_residual.result (λ db credits. PaysAmong o order works db credits.items) (FindsCredits o pool order works)
+        c.in_err-credits.ensures.examined.says c.from_residual.ensures.1
+        (λ cannot listed b holds is. let can = payable o b old.now.trees holds pool order is in cannot listed b can.0 can.2);
+  };
+}
 
-pub returns-in_err-lines_agree-clause-examined : goal.returns-in_err-lines_agree-clause-examined
-returns-in_err-lines_agree-clause-examined g c =
-    let o = c.args.office.now in
-    let pool = c.args.pool in
-    let order = c.args.order.now in
-    let works = c.args.works.now in
-    let number = c.value.result in
-    let credits = c.as_slice.result.now in
-    let paid = c.in_ok-credits.credits in
-    let old = state g.S.Store c.args.tx.now.conn.now in
-    let mid = state g.S.Store c.paid_by.new.tx.conn.now in
-    let new = state g.S.Store c.lines_agree.new.tx.conn.now in
-    let result = c.from_residual-in_err-lines_agree.result in
-    let Others : Trees → Type 0 = IsNot (ListsOnly number (credit_lines number credits)) in
-    examines_then {X = Vec Credit Global} {Y = Vec Credit Global} (CannotPayAmong o order works) Others (HasNoPool o pool order works) old mid new paid result (λ db found. PaysAmong o order works db found.items) (FindsCredits o pool order works) (FindsCredits o pool order works)
-    c.in_ok-credits.ensures.examined
-    (examines_not {X = Unit {0}} {Y = Vec Credit Global} Others Others mid new c.in_err-lines_agree.field-0.0 result (λ db _. HasCredits number credits db) (FindsCredits o pool order works) c.in_err-lines_agree.ensures.examined c.from_residual-in_err-lines_agree.ensures.1 (λ no. no))
-    (λ y pays found. found)
-    (no_pool o old.now.trees pool order number works credits paid.items c.value.ensures.value c.as_slice.ensures.value)
+pub returns-in_err-lines_agree : goal.returns-in_err-lines_agree
+returns-in_err-lines_agree g c = record {
+  examined = record {
+    same_reference = search rules;
+    says =
+        let o = c.args.office.now in
+        let pool = c.args.pool in
+        let order = c.args.order.now in
+        let works = c.args.works.now in
+        let number = c.value.result in
+        let credits = c.as_slice.result.now in
+        let paid = c.in_ok-credits.credits in
+        let old = state g.S.Store c.args.tx.now.conn.now in
+        let mid = state g.S.Store c.paid_by.new.tx.conn.now in
+        let new = state g.S.Store c.lines_agree.new.tx.conn.now in
+        let result = c.from_residual-in_err-lines_agree.result in
+        let Others : Trees → Type 0 = IsNot (ListsOnly number (credit_lines number credits)) in
+        examines_then {X = Vec Credit Global} {Y = Vec Credit Global} (CannotPayAmong o order works) Others (HasNoPool o pool order works) old mid new paid result (λ db found. PaysAmong o order works db found.items) (FindsCredits o pool order works) (FindsCredits o pool order works)
+        c.in_ok-credits.ensures.examined.says
+        (examines_not {X = Unit {0}} {Y = Vec Credit Global} Others Others mid new c.in_err-lines_agree.field-0.0 result (λ db _. HasCredits number credits db) (FindsCredits o pool order works) c.in_err-lines_agree.ensures.examined.says c.from_residual-in_err-lines_agree.ensures.1 (λ no. no))
+        (λ y pays found. found)
+        (no_pool o old.now.trees pool order number works credits paid.items c.value.ensures.value c.as_slice.ensures.value);
+  };
+}
 
-pub returns-clause-examined : goal.returns-clause-examined
-returns-clause-examined g c =
-    let o = c.args.office.now in
-    let pool = c.args.pool in
-    let order = c.args.order.now in
-    let works = c.args.works.now in
-    let number = c.value.result in
-    let credits = c.as_slice.result.now in
-    let paid = c.in_ok-credits.credits in
-    let old = state g.S.Store c.args.tx.now.conn.now in
-    let mid = state g.S.Store c.paid_by.new.tx.conn.now in
-    let new = state g.S.Store c.lines_agree.new.tx.conn.now in
-    let Others : Trees → Type 0 = IsNot (ListsOnly number (credit_lines number credits)) in
-    let Shows : Trees → Vec Credit Global → Type 0 = λ db found. (found ≡ paid) × HasCredits number credits db in
-    examines_then {X = Vec Credit Global} {Y = Vec Credit Global} (CannotPayAmong o order works) Others (HasNoPool o pool order works) old mid new paid (Ok paid) (λ db found. PaysAmong o order works db found.items) Shows (FindsCredits o pool order works)
-    c.in_ok-credits.ensures.examined
-    (examines_as {X = Unit {0}} {Y = Vec Credit Global} Others Others mid new tt (Ok paid) (λ db _. HasCredits number credits db) Shows c.in_ok-lines_agree.ensures.examined (λ has. (refl, has)) (λ has. tt))
-    (λ y pays found. subst (λ (list : Vec Credit Global). FindsCredits o pool order works old.now.trees list) (sym found.0) (has_pool o old.now.trees pool order number works credits paid.items c.value.ensures.value c.as_slice.ensures.value found.1, pays))
-    (no_pool o old.now.trees pool order number works credits paid.items c.value.ensures.value c.as_slice.ensures.value)
+pub returns : goal.returns
+returns g c = record {
+  examined = record {
+    same_reference = search rules;
+    says =
+        let o = c.args.office.now in
+        let pool = c.args.pool in
+        let order = c.args.order.now in
+        let works = c.args.works.now in
+        let number = c.value.result in
+        let credits = c.as_slice.result.now in
+        let paid = c.in_ok-credits.credits in
+        let old = state g.S.Store c.args.tx.now.conn.now in
+        let mid = state g.S.Store c.paid_by.new.tx.conn.now in
+        let new = state g.S.Store c.lines_agree.new.tx.conn.now in
+        let Others : Trees → Type 0 = IsNot (ListsOnly number (credit_lines number credits)) in
+        let Shows : Trees → Vec Credit Global → Type 0 = λ db found. (found ≡ paid) × HasCredits number credits db in
+        examines_then {X = Vec Credit Global} {Y = Vec Credit Global} (CannotPayAmong o order works) Others (HasNoPool o pool order works) old mid new paid (Ok paid) (λ db found. PaysAmong o order works db found.items) Shows (FindsCredits o pool order works)
+        c.in_ok-credits.ensures.examined.says
+        (examines_as {X = Unit {0}} {Y = Vec Credit Global} Others Others mid new tt (Ok paid) (λ db _. HasCredits number credits db) Shows c.in_ok-lines_agree.ensures.examined.says (λ has. (refl, has)) (λ has. tt))
+        (λ y pays found. subst (λ (list : Vec Credit Global). FindsCredits o pool order works old.now.trees list) (sym found.0) (has_pool o old.now.trees pool order number works credits paid.items c.value.ensures.value c.as_slice.ensures.value found.1, pays))
+        (no_pool o old.now.trees pool order number works credits paid.items c.value.ensures.value c.as_slice.ensures.value);
+  };
+}

@@ -18,7 +18,7 @@ returns-then-branch-clause-examined g c = λ table sender width lists exact.
     let rows = c.in_ok-rows.rows in
     let old = state g.S.Store c.args.tx.now.conn.now in
     let db = old.now.trees in
-    examines_as {X = Vec Row Global} {Y = Unit {0}} Never (IsNot (HasRowsOf table sender wanted)) old (state g.S.Store c.ask.new.tx.conn.now) rows (Ok tt) (λ d found. RowsAnswer c.args.question d found.items) (λ d _. HasRowsOf table sender wanted d) c.in_ok-rows.ensures.examined
+    examines_as {X = Vec Row Global} {Y = Unit {0}} Never (IsNot (HasRowsOf table sender wanted)) old (state g.S.Store c.ask.new.tx.conn.now) rows (Ok tt) (λ d found. RowsAnswer c.args.question d found.items) (λ d _. HasRowsOf table sender wanted d) c.in_ok-rows.ensures.examined.says
     (λ answers. IsPermutation-trans (filter (of_sender sender) (rows_in table db)) rows.items wanted (lists db rows.items answers).rows (c.in_ok-are_alike.ensures.alike c.if-branch.true))
     (λ answers. tt)
 
@@ -28,7 +28,7 @@ returns-clause-examined g c = λ table sender width lists exact.
     let rows = c.in_ok-rows.rows in
     let old = state g.S.Store c.args.tx.now.conn.now in
     let db = old.now.trees in
-    examines_as {X = Vec Row Global} {Y = Unit {0}} Never (IsNot (HasRowsOf table sender wanted)) old (state g.S.Store c.ask.new.tx.conn.now) rows (Err Damaged) (λ d found. RowsAnswer c.args.question d found.items) (λ d _. HasRowsOf table sender wanted d) c.in_ok-rows.ensures.examined
+    examines_as {X = Vec Row Global} {Y = Unit {0}} Never (IsNot (HasRowsOf table sender wanted)) old (state g.S.Store c.ask.new.tx.conn.now) rows (Err Damaged) (λ d found. RowsAnswer c.args.question d found.items) (λ d _. HasRowsOf table sender wanted d) c.in_ok-rows.ensures.examined.says
     (λ answers. tt)
     (λ answers has.
     let listed = filter (of_sender sender) (rows_in table db) in

@@ -1,4 +1,4 @@
-use Rattle.std.proofs.Common.{Err, Ok}
+use Rattle.std.proofs.Common.{Err, Ok, rules}
 use Rattle.sqlite.specs.Held.{state}
 use Rattle.society_rows.specs.Layouts.{HasTable}
 use Rattle.society_rows.specs.Listings.{ListsAll}
@@ -8,17 +8,27 @@ use Rattle.society_rows.proofs.lemmas.readings.Queries.{reads_where}
 use Rattle.book_audit.proofs.lemmas.Examinations.{examines_reads, examines_unread}
 use Rattle.book_audit.proofs.reading.list_of.Goals as goal
 
-pub returns-clause-examined : goal.returns-clause-examined
-returns-clause-examined g c =
-    let table = c.args.table in
-    let old = state g.S.Store c.args.tx.now.conn.now in
-    let new = state g.S.Store c.all_rows.new.tx.conn.now in
-    examines_reads old new _ (λ db rows. ListsAll table db rows.items) (reads_where (HasTable table) HasLayout old new (Ok _) (λ db rows. ListsAll table db rows.items) (has_table table old.now) c.in_ok-all_rows.ensures.read)
+pub returns : goal.returns
+returns g c = record {
+  examined = record {
+    same_reference = search rules;
+    says =
+        let table = c.args.table in
+        let old = state g.S.Store c.args.tx.now.conn.now in
+        let new = state g.S.Store c.all_rows.new.tx.conn.now in
+        examines_reads old new _ (λ db rows. ListsAll table db rows.items) (reads_where (HasTable table) HasLayout old new (Ok _) (λ db rows. ListsAll table db rows.items) (has_table table old.now) c.in_ok-all_rows.ensures.read.says);
+  };
+}
 
-pub returns-in_err-all_rows-clause-examined : goal.returns-in_err-all_rows-clause-examined
-returns-in_err-all_rows-clause-examined g c =
-    let table = c.args.table in
-    let old = state g.S.Store c.args.tx.now.conn.now in
-    let new = state g.S.Store c.all_rows.new.tx.conn.now in
-    examines_unread old new _ c.from_residual.result (λ db rows. ListsAll table db rows.items) _ (reads_where (HasTable table) HasLayout old new (Err _) (λ db rows. ListsAll table db rows.items) (has_table table old.now) c.in_err-all_rows.ensures.read)
-    (λ clean has. c.in_err-all_rows.ensures.err clean (has_table table old.now has)) (λ clean has. c.in_err-all_rows.ensures.medium clean (has_table table old.now has)) c.from_residual.ensures.1
+pub returns-in_err-all_rows : goal.returns-in_err-all_rows
+returns-in_err-all_rows g c = record {
+  examined = record {
+    same_reference = search rules;
+    says =
+        let table = c.args.table in
+        let old = state g.S.Store c.args.tx.now.conn.now in
+        let new = state g.S.Store c.all_rows.new.tx.conn.now in
+        examines_unread old new _ c.from_residual.result (λ db rows. ListsAll table db rows.items) _ (reads_where (HasTable table) HasLayout old new (Err _) (λ db rows. ListsAll table db rows.items) (has_table table old.now) c.in_err-all_rows.ensures.read.says)
+        (λ clean has. c.in_err-all_rows.ensures.err clean (has_table table old.now has)) (λ clean has. c.in_err-all_rows.ensures.medium clean (has_table table old.now has)) c.from_residual.ensures.1;
+  };
+}

@@ -1,4 +1,4 @@
-use Rattle.std.proofs.Common.{◌≡◌, ◌∙◌, Bool, List, Ok, false, refl, subst, sym, true}
+use Rattle.std.proofs.Common.{◌≡◌, ◌∙◌, Bool, List, Ok, false, refl, subst, sym, true, rules}
 use Rattle.std.proofs.lemmas.List.{take_all}
 use Rattle.std.specs.List.{list_all}
 use Rattle.sqlite.specs.Held.{state}
@@ -9,17 +9,22 @@ use Rattle.book_audit.specs.Standing.{TellsPaid, is_paid_once}
 use Rattle.book_audit.proofs.lemmas.orders.Steps.{one_fails, one_passes}
 use Rattle.book_audit.proofs.returns.are_paid_once.Goals as goal
 
-pub returns-then-not-branch-clause-examined : goal.returns-then-not-branch-clause-examined
-returns-then-not-branch-clause-examined g c =
-    let old = state g.S.Store c.args.tx.now.conn.now in
-    let mid = state g.S.Store c.loop-key.tx.conn.now in
-    let new = state g.S.Store c.is_paid_once.new.tx.conn.now in
-    let keys = c.args.keys.now in
-    let key = c.key-item.result in
-    examines_then Never Never Never old mid new tt (Ok false) _ (λ db (t : Bool). (t ≡ false) × (is_paid_once db key ≡ false)) (TellsPaid keys) c.loop-key.invariant.examined
-    (examines_as Never Never mid new c.in_ok-is_paid_once.field-0 (Ok false) _ _ c.in_ok-is_paid_once.ensures.examined (λ told. (refl, sym told ∙ c.if-not-branch.true)) (λ told. tt))
-    (λ t before told. told.0 ∙ one_fails (is_paid_once old.now.trees) keys c.loop-key.key-index key c.loop-key-test.true c.key-item.is told.1)
-    (λ before never. never)
+pub returns-then-not-branch : goal.returns-then-not-branch
+returns-then-not-branch g c = record {
+  examined = record {
+    same_reference = search rules;
+    says =
+        let old = state g.S.Store c.args.tx.now.conn.now in
+        let mid = state g.S.Store c.loop-key.tx.conn.now in
+        let new = state g.S.Store c.is_paid_once.new.tx.conn.now in
+        let keys = c.args.keys.now in
+        let key = c.key-item.result in
+        examines_then Never Never Never old mid new tt (Ok false) _ (λ db (t : Bool). (t ≡ false) × (is_paid_once db key ≡ false)) (TellsPaid keys) c.loop-key.invariant.examined
+        (examines_as Never Never mid new c.in_ok-is_paid_once.field-0 (Ok false) _ _ c.in_ok-is_paid_once.ensures.examined.says (λ told. (refl, sym told ∙ c.if-not-branch.true)) (λ told. tt))
+        (λ t before told. told.0 ∙ one_fails (is_paid_once old.now.trees) keys c.loop-key.key-index key c.loop-key-test.true c.key-item.is told.1)
+        (λ before never. never);
+  };
+}
 
 pub loop-key-preserved : goal.loop-key-preserved
 loop-key-preserved g c =
@@ -29,16 +34,21 @@ loop-key-preserved g c =
     let keys = c.args.keys.now in
     let key = c.key-item.result in
     record {
-      same_reference = c.is_paid_once.ensures.same_reference ∙ c.loop-key.invariant.same_reference;
+      same_reference = c.is_paid_once.ensures.examined.same_reference ∙ c.loop-key.invariant.same_reference;
       examined = examines_then Never Never Never old mid new tt (Ok tt) _ (λ db _. is_paid_once db key ≡ true) _ c.loop-key.invariant.examined
-          (examines_as Never Never mid new c.in_ok-is_paid_once.field-0 (Ok tt) _ _ c.in_ok-is_paid_once.ensures.examined (λ told. sym told ∙ c.if-not-branch.false) (λ told. tt))
+          (examines_as Never Never mid new c.in_ok-is_paid_once.field-0 (Ok tt) _ _ c.in_ok-is_paid_once.ensures.examined.says (λ told. sym told ∙ c.if-not-branch.false) (λ told. tt))
           (λ t before here. one_passes (is_paid_once old.now.trees) keys c.loop-key.key-index key c.loop-key-test.true c.key-item.is before here)
           (λ before never. never);
     }
 
-pub returns-clause-examined : goal.returns-clause-examined
-returns-clause-examined g c =
-    let old = state g.S.Store c.args.tx.now.conn.now in
-    examines_as Never Never old (state g.S.Store c.loop-key.tx.conn.now) tt (Ok true) _ _ c.loop-key.invariant.examined
-    (λ before. sym (subst (λ (l : List ReturnKey). list_all (is_paid_once old.now.trees) l ≡ true) (take_all c.loop-key.key-index c.args.keys.now c.loop-key-test.false) before))
-    (λ before. tt)
+pub returns : goal.returns
+returns g c = record {
+  examined = record {
+    same_reference = search rules;
+    says =
+        let old = state g.S.Store c.args.tx.now.conn.now in
+        examines_as Never Never old (state g.S.Store c.loop-key.tx.conn.now) tt (Ok true) _ _ c.loop-key.invariant.examined
+        (λ before. sym (subst (λ (l : List ReturnKey). list_all (is_paid_once old.now.trees) l ≡ true) (take_all c.loop-key.key-index c.args.keys.now c.loop-key-test.false) before))
+        (λ before. tt);
+  };
+}

@@ -1,4 +1,4 @@
-use Rattle.std.proofs.Common.{◌∙◌, Err, Ok, sym, ap}
+use Rattle.std.proofs.Common.{◌∙◌, Err, Ok, sym, ap, rules}
 use Rattle.sqlite.specs.Held.{state}
 use Rattle.book_audit.proofs.lemmas.Examinations.{examines_as}
 use Rattle.book_audit.specs.Entries.{is_right_sent}
@@ -7,20 +7,30 @@ use Rattle.book_audit.proofs.lemmas.entries.KeyForms.{some_if}
 use Rattle.book_audit.proofs.lemmas.entries.SentRows.{sent_asked}
 use Rattle.book_audit.proofs.sent.sent_at.Goals as goal
 
-pub returns-then-branch-clause-examined : goal.returns-then-branch-clause-examined
-returns-then-branch-clause-examined g c =
-    let old = state g.S.Store c.args.tx.now.conn.now in
-    let row = c.args.row.now in
-    let key = some_if _ _ _ _ c.sent_key.ensures c.in-Some.is in
-    examines_as _ _ old (state g.S.Store c.ask.new.tx.conn.now) c.in_ok-rows.rows (Ok c.in-Some.key) _ _ (rw (c.as_bytes.ensures.bytes, c.value.ensures.value) at c.in_ok-rows.ensures.examined)
-    (λ lists. (key.1, sent_asked old.now.trees row c.in-Some.key c.in_ok-rows.rows.items key.0 key.1 lists ∙ ap (is_one_right is_right_sent) (sym c.as_slice.ensures.value) ∙ sym c.in_ok-is_alone_right.ensures ∙ c.if-branch.true))
-    (λ lists. tt)
+pub returns-then-branch : goal.returns-then-branch
+returns-then-branch g c = record {
+  examined = record {
+    same_reference = search rules;
+    says =
+        let old = state g.S.Store c.args.tx.now.conn.now in
+        let row = c.args.row.now in
+        let key = some_if _ _ _ _ c.sent_key.ensures c.in-Some.is in
+        examines_as _ _ old (state g.S.Store c.ask.new.tx.conn.now) c.in_ok-rows.rows (Ok c.in-Some.key) _ _ (rw (c.as_bytes.ensures.bytes, c.value.ensures.value) at c.in_ok-rows.ensures.examined.says)
+        (λ lists. (key.1, sent_asked old.now.trees row c.in-Some.key c.in_ok-rows.rows.items key.0 key.1 lists ∙ ap (is_one_right is_right_sent) (sym c.as_slice.ensures.value) ∙ sym c.in_ok-is_alone_right.ensures ∙ c.if-branch.true))
+        (λ lists. tt);
+  };
+}
 
-pub returns-clause-examined : goal.returns-clause-examined
-returns-clause-examined g c =
-    let old = state g.S.Store c.args.tx.now.conn.now in
-    let row = c.args.row.now in
-    let key = some_if _ _ _ _ c.sent_key.ensures c.in-Some.is in
-    examines_as _ _ old (state g.S.Store c.ask.new.tx.conn.now) c.in_ok-rows.rows (Err _) _ _ (rw (c.as_bytes.ensures.bytes, c.value.ensures.value) at c.in_ok-rows.ensures.examined)
-    (λ lists. tt)
-    (λ lists. sent_asked old.now.trees row c.in-Some.key c.in_ok-rows.rows.items key.0 key.1 lists ∙ ap (is_one_right is_right_sent) (sym c.as_slice.ensures.value) ∙ sym c.in_ok-is_alone_right.ensures ∙ c.if-branch.false)
+pub returns : goal.returns
+returns g c = record {
+  examined = record {
+    same_reference = search rules;
+    says =
+        let old = state g.S.Store c.args.tx.now.conn.now in
+        let row = c.args.row.now in
+        let key = some_if _ _ _ _ c.sent_key.ensures c.in-Some.is in
+        examines_as _ _ old (state g.S.Store c.ask.new.tx.conn.now) c.in_ok-rows.rows (Err _) _ _ (rw (c.as_bytes.ensures.bytes, c.value.ensures.value) at c.in_ok-rows.ensures.examined.says)
+        (λ lists. tt)
+        (λ lists. sent_asked old.now.trees row c.in-Some.key c.in_ok-rows.rows.items key.0 key.1 lists ∙ ap (is_one_right is_right_sent) (sym c.as_slice.ensures.value) ∙ sym c.in_ok-is_alone_right.ensures ∙ c.if-branch.false);
+  };
+}

@@ -13,6 +13,6 @@ returns-clause-examined g c = λ office.
     let set = c.in_ok-set.set in
     let old = state g.S.Store c.args.tx.now.conn.now in
     let db = old.now.trees in
-    examines_also {X = Unit {0}} (IsNot (AreAllOfThese set)) (DeniesLines office senders) old (state g.S.Store c.tables_agree.new.tx.conn.now) c.tables_agree.result (λ d _. AreAllOfThese set d) (λ d _. AreLinesOf senders d) c.tables_agree.ensures.examined
+    examines_also {X = Unit {0}} (IsNot (AreAllOfThese set)) (DeniesLines office senders) old (state g.S.Store c.tables_agree.new.tx.conn.now) c.tables_agree.result (λ d _. AreAllOfThese set d) (λ d _. AreLinesOf senders d) c.tables_agree.ensures.examined.says
     (λ x these. lines_of_these senders set c.in_ok-set.ensures db these)
     (λ no are holds. no (own_these office (book_of db) db holds senders are set c.in_ok-set.ensures))

@@ -38,23 +38,23 @@ segments-preserved g c =
     ap (λ (k : ℕ). behind_end (base_of (segment_of rank)) k (end_listed ends (segment_of rank))) (sym c.front.ensures) ∙ sym c.behind.ensures.value ∙ c.in-Some.is in
     record {
       limit = c.in-Some.ensures.later.1;
-      same_reference = c.in_ok-go_on.ensures.same_reference ∙ c.segments.invariant.same_reference;
+      same_reference = c.in_ok-go_on.ensures.looks.same_reference ∙ c.segments.invariant.same_reference;
       looks = looks_then old mid new tt (Ok tt) (λ db _. RunsPast s ends c.args.begun c.args.run.now rank run db) (λ db _. RunsOn s (record run { reached = next }) after db) _ c.segments.invariant.looks
-          (rw c.pass.ensures at c.in_ok-go_on.ensures.looks)
+          (rw c.pass.ensures at c.in_ok-go_on.ensures.looks.says)
           (λ y past on. past_more s ends c.args.begun c.args.run.now rank next run after old.now.trees is past on);
     }
 
-pub returns-clause-same_reference : goal.returns-clause-same_reference
-returns-clause-same_reference g c = c.segments.invariant.same_reference
-
 pub returns-clause-looks : goal.returns-clause-looks
-returns-clause-looks g c =
-    let rank = c.segments.rank in
-    let run = c.segments.run in
-    let ends = c.args.ends.now in
-    looks_as (state g.S.Store c.args.tx.now.conn.now) (state g.S.Store c.segments.tx.conn.now) tt (Ok tt) _ _ c.segments.invariant.looks
-    (past_all c.args.sender.now ends c.args.begun c.args.run.now rank run _
-    (ap (λ (k : ℕ). behind_end (base_of (segment_of rank)) k (end_listed ends (segment_of rank))) (sym c.front.ensures) ∙ sym c.behind.ensures.value ∙ c.in_default.is))
+returns-clause-looks g c = record {
+  same_reference = c.segments.invariant.same_reference;
+  says =
+      let rank = c.segments.rank in
+      let run = c.segments.run in
+      let ends = c.args.ends.now in
+      looks_as (state g.S.Store c.args.tx.now.conn.now) (state g.S.Store c.segments.tx.conn.now) tt (Ok tt) _ _ c.segments.invariant.looks
+      (past_all c.args.sender.now ends c.args.begun c.args.run.now rank run _
+      (ap (λ (k : ℕ). behind_end (base_of (segment_of rank)) k (end_listed ends (segment_of rank))) (sym c.front.ensures) ∙ sym c.behind.ensures.value ∙ c.in_default.is));
+}
 
 pub returns-in_err-go_on-clause-err : goal.returns-in_err-go_on-clause-err
 returns-in_err-go_on-clause-err g c =
@@ -62,5 +62,5 @@ returns-in_err-go_on-clause-err g c =
     let mid = state g.S.Store c.segments.tx.conn.now in
     let new = state g.S.Store c.go_on.new.tx.conn.now in
     errs_on (Unit {0}) KeepsUnsound KeepsUnsound old new c.in_err-go_on.field-0.0 c.from_residual.result
-    (errs_then {X = Unit {0}} {Y = Unit {0}} KeepsUnsound KeepsUnsound old mid new tt (Err c.in_err-go_on.field-0.0) (λ db _. RunsPast c.args.sender.now c.args.ends.now c.args.begun c.args.run.now c.segments.rank c.segments.run db) c.segments.invariant.looks c.in_err-go_on.ensures.looks.survives c.in_err-go_on.ensures.err (λ found wrong. wrong))
+    (errs_then {X = Unit {0}} {Y = Unit {0}} KeepsUnsound KeepsUnsound old mid new tt (Err c.in_err-go_on.field-0.0) (λ db _. RunsPast c.args.sender.now c.args.ends.now c.args.begun c.args.run.now c.segments.rank c.segments.run db) c.segments.invariant.looks c.in_err-go_on.ensures.looks.says.survives c.in_err-go_on.ensures.err (λ found wrong. wrong))
     c.from_residual.ensures.1 (λ wrong. wrong)

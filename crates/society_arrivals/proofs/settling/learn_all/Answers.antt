@@ -19,7 +19,7 @@ loop-work-preserved g c =
     let less = λ (w : List ℕ) (h : IsTrue (is_key_among (take (i + 1) all) w)).
     subst IsTrue (list_any_more (λ y. bytes_eq y w) all i x (omega (arith, c.loop-work-test.true)) ∙ ap (λ (y : List ℕ). known w || bytes_eq y w) (sym c.work-item.is)) h in
     record {
-      same_reference = c.learn_work.ensures.same_reference ∙ c.loop-work.invariant.same_reference;
-      looks = looks_then old mid new tt (Ok tt) _ _ _ c.loop-work.invariant.looks c.in_ok-learn_work.ensures.looks
+      same_reference = c.learn_work.ensures.looks.same_reference ∙ c.loop-work.invariant.same_reference;
+      looks = looks_then old mid new tt (Ok tt) _ _ _ c.loop-work.invariant.looks c.in_ok-learn_work.ensures.looks.says
           (λ y first second o b holds at. ends_less (λ w. known w || bytes_eq x w) (is_key_among (take (i + 1) all)) c.learn_work.new.end less (second o b known holds (first o b holds at)));
     }

@@ -19,7 +19,7 @@ returns-in_err-commit g c =
           let new = state g.S.Store c.commit.new.self.0 in
           let Leaves : Trees → Type 0 = λ db. IsTrue old.is_open × (HasLayout old.now → Change old.now.trees db) in
           let done : Survives old new Leaves =
-          alone_survives g.S.Store c.args.conn.now later new c.in_ok-front.front Change Says (rw (c.transaction-tx.ensures.begun, c.conn.view_is) at c.in_ok-front.ensures.does) c.commit.ensures.survives in
+          alone_survives g.S.Store c.args.conn.now later new c.in_ok-front.front Change Says (rw (c.transaction-tx.ensures.begun, c.conn.view_is) at c.in_ok-front.ensures.does.says) c.commit.ensures.survives in
           record {
             changed = search rules;
             says = search rules;
@@ -40,7 +40,7 @@ returns g c =
           let later = state g.S.Store c.state_inside.new.tx.conn.now in
           let new = state g.S.Store c.commit.new.self.0 in
           let done : AddsAlone Change Says old new (Ok c.in_ok-front.front) =
-          alone_done g.S.Store c.args.conn.now later new c.in_ok-front.front Change Says (rw (c.transaction-tx.ensures.begun, c.conn.view_is) at c.in_ok-front.ensures.does) c.commit.ensures.survives
+          alone_done g.S.Store c.args.conn.now later new c.in_ok-front.front Change Says (rw (c.transaction-tx.ensures.begun, c.conn.view_is) at c.in_ok-front.ensures.does.says) c.commit.ensures.survives
           (λ clean. (c.in_ok-commit.ensures.ok clean).1) in
           at_end (λ (z : State). AddsAlone Change Says old z (Ok c.in_ok-front.front)) new _ (search rules) done;
     }

@@ -15,7 +15,7 @@ returns-in_err-commit-clause-survives g c =
     let later = state g.S.Store c.add.new.tx.conn.now in
     let new = state g.S.Store c.commit.new.self.0 in
     let done : SurvivesChange (ReturnComes row) old new =
-    written_survives g.S.Store c.args.conn.now later new (Adds returns (row ∷ [])) (ReturnComes row) (rw (c.transaction-tx.ensures.begun, c.conn.view_is) at c.in_ok-add.ensures.written)
+    written_survives g.S.Store c.args.conn.now later new (Adds returns (row ∷ [])) (ReturnComes row) (rw (c.transaction-tx.ensures.begun, c.conn.view_is) at c.in_ok-add.ensures.written.says)
     (rw (c.transaction-tx.ensures.begun, c.conn.view_is) at c.in_ok-add.ensures.whole) (λ d e more. record { rows = more.rows; others = more.others }) c.commit.ensures.survives in
     at_end (λ (z : State). SurvivesChange (ReturnComes row) old z) new _ (search rules) done
 
@@ -26,6 +26,6 @@ returns-clause-survives g c =
     let later = state g.S.Store c.add.new.tx.conn.now in
     let new = state g.S.Store c.commit.new.self.0 in
     let done : SurvivesChange (ReturnComes row) old new =
-    written_survives g.S.Store c.args.conn.now later new (Adds returns (row ∷ [])) (ReturnComes row) (rw (c.transaction-tx.ensures.begun, c.conn.view_is) at c.in_ok-add.ensures.written)
+    written_survives g.S.Store c.args.conn.now later new (Adds returns (row ∷ [])) (ReturnComes row) (rw (c.transaction-tx.ensures.begun, c.conn.view_is) at c.in_ok-add.ensures.written.says)
     (rw (c.transaction-tx.ensures.begun, c.conn.view_is) at c.in_ok-add.ensures.whole) (λ d e more. record { rows = more.rows; others = more.others }) c.commit.ensures.survives in
     at_end (λ (z : State). SurvivesChange (ReturnComes row) old z) new _ (search rules) done

@@ -16,10 +16,10 @@ loop-credit-preserved g c =
     let mid = state g.S.Store c.loop-credit.tx.conn.now in
     let new = state g.S.Store c.add_units.new.tx.conn.now in
     record {
-      same_reference = c.add_units.ensures.same_reference ∙ c.loop-credit.invariant.same_reference;
+      same_reference = c.add_units.ensures.written.same_reference ∙ c.loop-credit.invariant.same_reference;
       does = does_then old mid new tt (Ok tt) _ _ _ c.loop-credit.invariant.does
           (does_of mid new (Ok _) _
-          (rw (to_z-of_z w64 c.in_ok-column_of.field-0 c.in_ok-column_of.ensures.range, c.in_ok-column_of.ensures.value, c.as_slice.ensures.value, c.in_ok-account.ensures) at c.in_ok-add_units.ensures.written)
+          (rw (to_z-of_z w64 c.in_ok-column_of.field-0 c.in_ok-column_of.ensures.range, c.in_ok-column_of.ensures.value, c.as_slice.ensures.value, c.in_ok-account.ensures) at c.in_ok-add_units.ensures.written.says)
           (λ before after adds. adds.put.layout))
           (λ y first second. subst (λ (cs : List Credit). AddsEach cs old.now new.now) (sym (take_next all i x (omega (arith, c.loop-credit-test.true)) c.credit-item.is)) (each_next (take i all) x old.now mid.now new.now first second));
     }

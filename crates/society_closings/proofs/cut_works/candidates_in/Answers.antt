@@ -1,4 +1,4 @@
-use Rattle.std.proofs.Common.{◌≡◌, ◌∙◌, List, ℕ, ap, bytes_eq, option_map, sym, true}
+use Rattle.std.proofs.Common.{◌≡◌, ◌∙◌, List, ℕ, ap, bytes_eq, option_map, sym, true, rules}
 use Rattle.std.specs.List.{list_any}
 use Rattle.society_book.proofs.lemmas.together.ErrLemmas.{errs_where}
 use Rattle.society_book.proofs.lemmas.together.StepLemmas.{does_also}
@@ -14,20 +14,23 @@ use Rattle.sqlite.specs.Held.{state}
 use Rattle.society_closings.proofs.cut_works.candidates_in.Goals as goal
 
 pub returns-clause-looks : goal.returns-clause-looks
-returns-clause-looks g c =
-    let tally = c.args.tally.now in
-    let works = c.args.works.now in
-    let cut = c.args.order.now.cut in
-    let db = (state g.S.Store c.args.tx.now.conn.now).now.trees in
-    let named = c.in_ok-named.named in
-    let senders = λ (s : List ℕ). c.in_ok-named.ensures.senders s ∙ ap (λ keys. is_of_cut keys s) c.cut.ensures.value in
-    let listed = λ (q : List ℕ) (is : is_tallied tally q ≡ true). c.in_ok-named.ensures.listed q (ap (λ (xs : List (List ℕ)). list_any (bytes_eq q) xs) c.as_slice.ensures.value ∙ sym (c.in_ok-recordings.ensures.tallied q) ∙ is) in
-    let lent = λ (weighed : AreWorksWeighed c.args.office.now db works).
-    lent_fewer c.args.kind c.args.office.now (λ q. list_any (bytes_eq q) c.as_slice-2.result.now) (is_tallied tally) db (option_map (λ w. w.now) c.weighed_for-weighed.result)
-    (λ q is. ap (λ (xs : List (List ℕ)). list_any (bytes_eq q) xs) c.as_slice-2.ensures.value ∙ sym (c.in_ok-recordings.ensures.tallied q) ∙ is)
-    (c.weighed_for-weighed.ensures c.args.office.now db weighed) in
-    does_also (state g.S.Store c.args.tx.now.conn.now) (state g.S.Store c.candidates_of.new.tx.conn.now) c.candidates_of.result _ _ (rw c.cut-2.ensures.value at c.candidates_of.ensures.looks)
-    (λ found said. (said.0, λ lists weighed b holds reached. said.1 b holds (lent weighed) (recordings_noted cut (is_tallied tally) db works.listed named lists senders listed) (all_asked named cut (λ s h. senders s ∙ h)) reached))
+returns-clause-looks g c = record {
+  same_reference = search rules;
+  says =
+      let tally = c.args.tally.now in
+      let works = c.args.works.now in
+      let cut = c.args.order.now.cut in
+      let db = (state g.S.Store c.args.tx.now.conn.now).now.trees in
+      let named = c.in_ok-named.named in
+      let senders = λ (s : List ℕ). c.in_ok-named.ensures.senders s ∙ ap (λ keys. is_of_cut keys s) c.cut.ensures.value in
+      let listed = λ (q : List ℕ) (is : is_tallied tally q ≡ true). c.in_ok-named.ensures.listed q (ap (λ (xs : List (List ℕ)). list_any (bytes_eq q) xs) c.as_slice.ensures.value ∙ sym (c.in_ok-recordings.ensures.tallied q) ∙ is) in
+      let lent = λ (weighed : AreWorksWeighed c.args.office.now db works).
+      lent_fewer c.args.kind c.args.office.now (λ q. list_any (bytes_eq q) c.as_slice-2.result.now) (is_tallied tally) db (option_map (λ w. w.now) c.weighed_for-weighed.result)
+      (λ q is. ap (λ (xs : List (List ℕ)). list_any (bytes_eq q) xs) c.as_slice-2.ensures.value ∙ sym (c.in_ok-recordings.ensures.tallied q) ∙ is)
+      (c.weighed_for-weighed.ensures c.args.office.now db weighed) in
+      does_also (state g.S.Store c.args.tx.now.conn.now) (state g.S.Store c.candidates_of.new.tx.conn.now) c.candidates_of.result _ _ (rw c.cut-2.ensures.value at c.candidates_of.ensures.looks.says)
+      (λ found said. (said.0, λ lists weighed b holds reached. said.1 b holds (lent weighed) (recordings_noted cut (is_tallied tally) db works.listed named lists senders listed) (all_asked named cut (λ s h. senders s ∙ h)) reached));
+}
 
 pub returns-in_err-recordings-clause-err : goal.returns-in_err-recordings-clause-err
 returns-in_err-recordings-clause-err g c =

@@ -1,4 +1,4 @@
-use Rattle.std.proofs.Common.{Ok, subst, sym, Err}
+use Rattle.std.proofs.Common.{Ok, subst, sym, Err, rules}
 use Rattle.std.specs.Prelude.{Vec}
 use Rattle.std.specs.declared.alloc.Global.{Global}
 use Rattle.share_rules.specs.declared.office.Office.{Office}
@@ -18,16 +18,19 @@ use Rattle.sqlite_value.specs.Order.{Row}
 use Rattle.society_closings.proofs.paying.add_return.Goals as goal
 
 pub returns-clause-looks : goal.returns-clause-looks
-returns-clause-looks g c =
-    let key = c.args.key.now in
-    let old = state g.S.Store c.args.tx.now.conn.now in
-    let new = state g.S.Store c.answer.new.tx.conn.now in
-    looks_as old new _ c.add_performances.result _ _ (looks_of old new (Ok _) _ (rw (c.as_bytes.ensures.bytes, c.value.ensures.value) at c.in_ok-rows.ensures.read))
-    (λ lists.
-    let shows : (o : Office) (b : Book) → HoldsWorks o b old.now.trees → ShowBody (return_at b key) c.as_slice.result.now = λ o b holds. subst (ShowBody (return_at b key)) (sym c.as_slice.ensures.value) (return_shows_by b _ holds.kept.returns key (refilled_by key.reporter _ c.as_bytes.ensures.bytes c.as_bytes.ensures.back) _ lists) in
-    counted_by c.add_performances.result old.now.trees c.args.tally.now c.add_performances.new.tally (λ b. rows_of_return b key)
-    (λ o b before holds. c.add_performances.ensures.counted (return_at b key) before (shows o b holds))
-    (λ o b holds. c.add_performances.ensures.limit (return_at b key) (shows o b holds)))
+returns-clause-looks g c = record {
+  same_reference = search rules;
+  says =
+      let key = c.args.key.now in
+      let old = state g.S.Store c.args.tx.now.conn.now in
+      let new = state g.S.Store c.answer.new.tx.conn.now in
+      looks_as old new _ c.add_performances.result _ _ (looks_of old new (Ok _) _ (rw (c.as_bytes.ensures.bytes, c.value.ensures.value) at c.in_ok-rows.ensures.read.says))
+      (λ lists.
+      let shows : (o : Office) (b : Book) → HoldsWorks o b old.now.trees → ShowBody (return_at b key) c.as_slice.result.now = λ o b holds. subst (ShowBody (return_at b key)) (sym c.as_slice.ensures.value) (return_shows_by b _ holds.kept.returns key (refilled_by key.reporter _ c.as_bytes.ensures.bytes c.as_bytes.ensures.back) _ lists) in
+      counted_by c.add_performances.result old.now.trees c.args.tally.now c.add_performances.new.tally (λ b. rows_of_return b key)
+      (λ o b before holds. c.add_performances.ensures.counted (return_at b key) before (shows o b holds))
+      (λ o b holds. c.add_performances.ensures.limit (return_at b key) (shows o b holds)));
+}
 
 pub returns-in_err-rows-clause-err : goal.returns-in_err-rows-clause-err
 returns-in_err-rows-clause-err g c =
@@ -42,6 +45,6 @@ returns-clause-err g c =
     let rows = c.as_slice.result.now in
     let old = state g.S.Store c.args.tx.now.conn.now in
     let new = state g.S.Store c.answer.new.tx.conn.now in
-    errs_as (LackReturn key) old new _ c.add_performances.result _ (looks_of old new (Ok _) _ (rw (c.as_bytes.ensures.bytes, c.value.ensures.value) at c.in_ok-rows.ensures.read))
+    errs_as (LackReturn key) old new _ c.add_performances.result _ (looks_of old new (Ok _) _ (rw (c.as_bytes.ensures.bytes, c.value.ensures.value) at c.in_ok-rows.ensures.read.says))
     (λ lists. blames_where (ShowReturn rows → ⊥) (LackReturn key old.now.trees) c.add_performances.result c.add_performances.ensures.blames
     (λ no o b holds there. no (return_shown o b old.now.trees holds key (refilled_by key.reporter _ c.as_bytes.ensures.bytes c.as_bytes.ensures.back) there _ rows lists c.as_slice.ensures.value)))

@@ -1,4 +1,4 @@
-use Rattle.std.proofs.Common.{◌≡◌, ◌∙◌, ◌≤◌, List, Ok, ap, arith, flat_map, length, length-append, subst, sym, take, is_some}
+use Rattle.std.proofs.Common.{◌≡◌, ◌∙◌, ◌≤◌, List, Ok, ap, arith, flat_map, length, length-append, subst, sym, take, is_some, rules}
 use Rattle.std.proofs.lemmas.List.{take_all}
 use Rattle.society_book.proofs.lemmas.together.StepLemmas.{looks_as, looks_then, nothing}
 use Rattle.society_closings.proofs.lemmas.cuts.FaultLemmas.{errs_passed}
@@ -27,8 +27,8 @@ loop-key-preserved g c =
     let mid = state g.S.Store c.loop-key.tx.conn.now in
     let new = state g.S.Store c.add_return.new.tx.conn.now in
     record {
-      same_reference = c.add_return.ensures.same_reference ∙ c.loop-key.invariant.same_reference;
-      looks = looks_then old mid new tt (Ok tt) _ _ _ c.loop-key.invariant.looks c.in_ok-add_return.ensures.looks
+      same_reference = c.add_return.ensures.looks.same_reference ∙ c.loop-key.invariant.same_reference;
+      looks = looks_then old mid new tt (Ok tt) _ _ _ c.loop-key.invariant.looks c.in_ok-add_return.ensures.looks.says
           (λ y first second o b holds few.
           let before = flat_map (rows_of_return b) (take i keys) in
           let so_far = first o b holds few in
@@ -41,15 +41,18 @@ loop-key-preserved g c =
     }
 
 pub returns-clause-looks : goal.returns-clause-looks
-returns-clause-looks g c =
-    let keys = c.args.returns.now in
-    looks_as (state g.S.Store c.args.tx.now.conn.now) (state g.S.Store c.loop-key.tx.conn.now) tt (Ok c.loop-key.tally) _ _ c.loop-key.invariant.looks
-    (λ all o b holds few.
-    let it = all o b holds few in
-    let whole : take c.loop-key.key-index keys ≡ keys = take_all c.loop-key.key-index keys (omega (arith, c.loop-key-test.false)) in (
-      subst (λ (ks : List ReturnKey). Tallies c.loop-key.tally (flat_map (rows_of_return b) ks)) whole it.0,
-      omega (arith, ap (λ (ks : List ReturnKey). length (flat_map (rows_of_return b) ks)) whole, it.1, few, c.loop-key.auto.key-index-end),
-    ))
+returns-clause-looks g c = record {
+  same_reference = search rules;
+  says =
+      let keys = c.args.returns.now in
+      looks_as (state g.S.Store c.args.tx.now.conn.now) (state g.S.Store c.loop-key.tx.conn.now) tt (Ok c.loop-key.tally) _ _ c.loop-key.invariant.looks
+      (λ all o b holds few.
+      let it = all o b holds few in
+      let whole : take c.loop-key.key-index keys ≡ keys = take_all c.loop-key.key-index keys (omega (arith, c.loop-key-test.false)) in (
+        subst (λ (ks : List ReturnKey). Tallies c.loop-key.tally (flat_map (rows_of_return b) ks)) whole it.0,
+        omega (arith, ap (λ (ks : List ReturnKey). length (flat_map (rows_of_return b) ks)) whole, it.1, few, c.loop-key.auto.key-index-end),
+      ));
+}
 
 pub returns-in_err-add_return-clause-err : goal.returns-in_err-add_return-clause-err
 returns-in_err-add_return-clause-err g c =
@@ -57,5 +60,5 @@ returns-in_err-add_return-clause-err g c =
     let i = c.loop-key.key-index in
     let key = c.key-item.result in
     errs_passed (Unit {0}) (LackReturn key) (LackReturns keys) (state g.S.Store c.args.tx.now.conn.now) (state g.S.Store c.loop-key.tx.conn.now) (state g.S.Store c.add_return.new.tx.conn.now) tt _ c.from_residual.result _ _
-    c.loop-key.invariant.looks c.in_err-add_return.ensures.looks c.in_err-add_return.ensures.err c.from_residual.ensures.1
+    c.loop-key.invariant.looks c.in_err-add_return.ensures.looks.says c.in_err-add_return.ensures.err c.from_residual.ensures.1
     (λ first no o b holds there. no o b holds (ap (λ (k : ReturnKey). is_some (return_at b k)) c.key-item.is ∙ all_at (λ (k : ReturnKey). is_some (return_at b k)) keys i key there (omega (arith, c.loop-key-test.true))))

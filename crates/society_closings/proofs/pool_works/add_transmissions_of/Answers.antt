@@ -1,4 +1,4 @@
-use Rattle.std.proofs.Common.{[], ◌∷◌, Err, IfOk, Ok, Result}
+use Rattle.std.proofs.Common.{[], ◌∷◌, Err, IfOk, Ok, Result, rules}
 use Rattle.std.specs.List.{AllByRecursion}
 use Rattle.std.specs.Prelude.{Vec}
 use Rattle.std.specs.declared.alloc.Global.{Global}
@@ -22,10 +22,13 @@ nothing_said (Ok x) = tt
 nothing_said (Err fault) = tt
 
 pub returns-clause-looks : goal.returns-clause-looks
-returns-clause-looks g c =
-    let old = state g.S.Store c.args.tx.now.conn.now in
-    let new = state g.S.Store c.answer.new.tx.conn.now in
-    looks_as old new _ c.add_rows.result _ _ (looks_of old new (Ok _) _ c.in_ok-rows.ensures.read) (λ lists. nothing_said c.add_rows.result)
+returns-clause-looks g c = record {
+  same_reference = search rules;
+  says =
+      let old = state g.S.Store c.args.tx.now.conn.now in
+      let new = state g.S.Store c.answer.new.tx.conn.now in
+      looks_as old new _ c.add_rows.result _ _ (looks_of old new (Ok _) _ c.in_ok-rows.ensures.read.says) (λ lists. nothing_said c.add_rows.result);
+}
 
 pub returns-in_err-rows-clause-err : goal.returns-in_err-rows-clause-err
 returns-in_err-rows-clause-err g c =
@@ -38,6 +41,6 @@ returns-clause-err g c =
     let old = state g.S.Store c.args.tx.now.conn.now in
     let new = state g.S.Store c.answer.new.tx.conn.now in
     let rows = c.as_slice.result.now in
-    errs_as HoldNoWorks old new _ c.add_rows.result _ (looks_of old new (Ok _) _ c.in_ok-rows.ensures.read)
+    errs_as HoldNoWorks old new _ c.add_rows.result _ (looks_of old new (Ok _) _ c.in_ok-rows.ensures.read.says)
     (λ lists. blames_where (AllByRecursion IsVersionRow rows → ⊥) (HoldNoWorks old.now.trees) c.add_rows.result c.add_rows.ensures.blames
     (λ no o b holds. no (listed_hold IsVersionRow layout.versions (has_key (Text c.as_bytes.result.now ∷ Text c.as_bytes-2.result.now ∷ [])) 3 old.now.trees _ rows lists c.as_slice.ensures.value (versions_readable o b old.now.trees holds))))

@@ -13,6 +13,6 @@ returns-clause-tries g c =
     let new = state g.S.Store c.rollback.new.self.0 in
     let done : TriesOver c.args.office.now c.args.layout (state g.S.Store c.args.conn.now) new c.take_office-taken.result =
     tries_by g.S.Store (HasOlder c.args.layout) (number_of c.args.layout) c.args.office.now (HoldsOlder c.args.office.now c.args.layout) (TakesOffice c.args.office.now c.args.layout) c.args.conn.now mid new c.take_office-taken.result (took c.args.office.now c.args.layout) c.see_last_commit.ensures.settled
-    (rw (c.transaction-tx.ensures.begun, c.conn.view_is) at c.take_office-taken.ensures.does) (rw (c.transaction-tx.ensures.begun, c.conn.view_is) at c.take_office-taken.ensures.err)
+    (rw (c.transaction-tx.ensures.begun, c.conn.view_is) at c.take_office-taken.ensures.does.says) (rw (c.transaction-tx.ensures.begun, c.conn.view_is) at c.take_office-taken.ensures.err)
     (rw (c.transaction-tx.ensures.begun, c.conn.view_is) at c.take_office-taken.ensures.damaged) (rw (c.transaction-tx.ensures.begun, c.conn.view_is) at c.take_office-taken.ensures.medium) c.rollback.ensures.undone c.rollback.ensures.survives in
     search rules

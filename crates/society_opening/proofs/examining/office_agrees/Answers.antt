@@ -1,4 +1,4 @@
-use Rattle.std.proofs.Common.{Ok, Err}
+use Rattle.std.proofs.Common.{Ok, Err, rules}
 use Rattle.sqlite.specs.Held.{state}
 use Rattle.society_rows.specs.Effects.{MayFail}
 use Rattle.society_rows.specs.Layouts.{HasTable}
@@ -13,21 +13,27 @@ use Rattle.society_opening.proofs.lemmas.taking.WritingFaults.{failed_by, never_
 use Rattle.society_opening.proofs.examining.office_agrees.Goals as goal
 
 pub returns-clause-finds : goal.returns-clause-finds
-returns-clause-finds g c =
-    let old = state g.S.Store c.args.tx.now.conn.now in
-    let new = state g.S.Store c.all_rows.new.tx.conn.now in
-    over_as (HasTable name.Office) old new c.in_ok-rows.rows c.check_office.result _ _ (over_reads (HasTable name.Office) old new (Ok c.in_ok-rows.rows) _ c.in_ok-rows.ensures.read)
-    (λ found. more c.check_office.result (λ y here. (found.0, here)) (here_listed c.args.number c.args.office.now _ _ _ c.check_office.result found.1 (rw c.as_slice.ensures.value at c.check_office.ensures.same)))
+returns-clause-finds g c = record {
+  same_reference = search rules;
+  says =
+      let old = state g.S.Store c.args.tx.now.conn.now in
+      let new = state g.S.Store c.all_rows.new.tx.conn.now in
+      over_as (HasTable name.Office) old new c.in_ok-rows.rows c.check_office.result _ _ (over_reads (HasTable name.Office) old new (Ok c.in_ok-rows.rows) _ c.in_ok-rows.ensures.read.says)
+      (λ found. more c.check_office.result (λ y here. (found.0, here)) (here_listed c.args.number c.args.office.now _ _ _ c.check_office.result found.1 (rw c.as_slice.ensures.value at c.check_office.ensures.same)));
+}
 
 pub returns-in_err-rows-clause-finds : goal.returns-in_err-rows-clause-finds
-returns-in_err-rows-clause-finds g c =
-    let old = state g.S.Store c.args.tx.now.conn.now in
-    let new = state g.S.Store c.all_rows.new.tx.conn.now in
-    over_not (HasTable name.Office) old new c.in_err-rows.field-0.0 c.from_residual.result _ _ (over_reads (HasTable name.Office) old new (Err c.in_err-rows.field-0.0) _ c.in_err-rows.ensures.read) c.from_residual.ensures.0
+returns-in_err-rows-clause-finds g c = record {
+  same_reference = search rules;
+  says =
+      let old = state g.S.Store c.args.tx.now.conn.now in
+      let new = state g.S.Store c.all_rows.new.tx.conn.now in
+      over_not (HasTable name.Office) old new c.in_err-rows.field-0.0 c.from_residual.result _ _ (over_reads (HasTable name.Office) old new (Err c.in_err-rows.field-0.0) _ c.in_err-rows.ensures.read.says) c.from_residual.ensures.0;
+}
 
 pub returns-clause-err : goal.returns-clause-err
 returns-clause-err g c clean inside was =
-    told_listed c.args.number c.args.office.now _ _ _ c.check_office.result (c.in_ok-rows.ensures.read.found clean was) (rw c.as_slice.ensures.value at c.check_office.ensures.err)
+    told_listed c.args.number c.args.office.now _ _ _ c.check_office.result (c.in_ok-rows.ensures.read.says.found clean was) (rw c.as_slice.ensures.value at c.check_office.ensures.err)
 
 pub returns-in_err-rows-clause-err : goal.returns-in_err-rows-clause-err
 returns-in_err-rows-clause-err g c clean inside was = told_failed c.args.number c.args.office.now _ c.in_err-rows.field-0.0 c.from_residual.result c.from_residual.ensures.1

@@ -12,6 +12,6 @@ returns-clause-tries g c =
     let new = state g.S.Store c.rollback.new.self.0 in
     let done : TriesNewest c.args.office.now (state g.S.Store c.args.conn.now) new c.examine_office-found.result =
     tries_by g.S.Store HasLayout 3 c.args.office.now (HoldsOwnBook c.args.office.now) _ c.args.conn.now mid new c.examine_office-found.result (λ before after said. ∣ said.1 ∣₁) c.see_last_commit.ensures.settled
-    (rw (c.transaction-tx.ensures.begun, c.conn.view_is) at c.examine_office-found.ensures.does) (rw (c.transaction-tx.ensures.begun, c.conn.view_is) at c.examine_office-found.ensures.err)
+    (rw (c.transaction-tx.ensures.begun, c.conn.view_is) at c.examine_office-found.ensures.does.says) (rw (c.transaction-tx.ensures.begun, c.conn.view_is) at c.examine_office-found.ensures.err)
     (rw (c.transaction-tx.ensures.begun, c.conn.view_is) at c.examine_office-found.ensures.damaged) (rw (c.transaction-tx.ensures.begun, c.conn.view_is) at c.examine_office-found.ensures.medium) c.rollback.ensures.undone c.rollback.ensures.survives in
     search rules

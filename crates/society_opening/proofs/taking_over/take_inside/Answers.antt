@@ -1,4 +1,4 @@
-use Rattle.std.proofs.Common.{Err, Ok, refl}
+use Rattle.std.proofs.Common.{Err, Ok, refl, rules}
 use Rattle.sqlite.specs.Held.{state}
 use Rattle.society_rows.specs.Layouts.{HasOlder}
 use Rattle.society_rows.specs.Stored.{HasLayout}
@@ -11,21 +11,27 @@ use Rattle.society_opening.proofs.lemmas.taking.WritingFaults.{faults_on, says_w
 use Rattle.society_opening.proofs.taking_over.take_inside.Goals as goal
 
 pub returns-in-Ok-clause-does : goal.returns-in-Ok-clause-does
-returns-in-Ok-clause-does g c =
-    let l = c.args.layout in
-    let o = c.args.office.now in
-    let old = state g.S.Store c.args.tx.now.conn.now in
-    let mid = state g.S.Store c.raise_inside.new.tx.conn.now in
-    let new = state g.S.Store c.complete.new.tx.conn.now in
-    over_then (HasOlder l) HasLayout old mid new tt c.complete.result _ _ _ (over_writes (HasOlder l) old mid (Ok tt) _ c.in-Ok.ensures.raised) (λ has said. said.0)
-    (over_derives (LacksRaised o l) mid new c.complete.result _ c.complete.ensures.derives)
-    (λ y one two named. (two.0, (stand_for l old.now.trees mid.now.trees new.now.trees one.1 two.2.kept, ∣ two.2.holds (named_so o l old.now.trees mid.now.trees one.1 named) (raised_so l old.now.trees mid.now.trees one.1) ∣₁)))
+returns-in-Ok-clause-does g c = record {
+  same_reference = search rules;
+  says =
+      let l = c.args.layout in
+      let o = c.args.office.now in
+      let old = state g.S.Store c.args.tx.now.conn.now in
+      let mid = state g.S.Store c.raise_inside.new.tx.conn.now in
+      let new = state g.S.Store c.complete.new.tx.conn.now in
+      over_then (HasOlder l) HasLayout old mid new tt c.complete.result _ _ _ (over_writes (HasOlder l) old mid (Ok tt) _ c.in-Ok.ensures.raised.says) (λ has said. said.0)
+      (over_derives (LacksRaised o l) mid new c.complete.result _ c.complete.ensures.derives.says)
+      (λ y one two named. (two.0, (stand_for l old.now.trees mid.now.trees new.now.trees one.1 two.2.kept, ∣ two.2.holds (named_so o l old.now.trees mid.now.trees one.1 named) (raised_so l old.now.trees mid.now.trees one.1) ∣₁)));
+}
 
 pub returns-in-Err-clause-does : goal.returns-in-Err-clause-does
-returns-in-Err-clause-does g c =
-    let old = state g.S.Store c.args.tx.now.conn.now in
-    let mid = state g.S.Store c.raise_inside.new.tx.conn.now in
-    over_not (HasOlder c.args.layout) old mid c.in-Err.fault (Err c.fault_of_writing.result) _ _ (over_writes (HasOlder c.args.layout) old mid (Err c.in-Err.fault) _ c.in-Err.ensures.raised) refl
+returns-in-Err-clause-does g c = record {
+  same_reference = search rules;
+  says =
+      let old = state g.S.Store c.args.tx.now.conn.now in
+      let mid = state g.S.Store c.raise_inside.new.tx.conn.now in
+      over_not (HasOlder c.args.layout) old mid c.in-Err.fault (Err c.fault_of_writing.result) _ _ (over_writes (HasOlder c.args.layout) old mid (Err c.in-Err.fault) _ c.in-Err.ensures.raised.says) refl;
+}
 
 pub returns-in-Ok-clause-faults : goal.returns-in-Ok-clause-faults
 returns-in-Ok-clause-faults g c clean inside was =
@@ -34,10 +40,10 @@ returns-in-Ok-clause-faults g c clean inside was =
     let old = state g.S.Store c.args.tx.now.conn.now in
     let mid = state g.S.Store c.raise_inside.new.tx.conn.now in
     let new = state g.S.Store c.complete.new.tx.conn.now in
-    let before = clean_before mid new c.complete.ensures.derives.survives clean in
-    let raised = c.in-Ok.ensures.raised.change before inside was in
-    faults_on (StandsForNone o l) (LacksRaised o l) old mid new c.complete.result c.in-Ok.ensures.raised.survives before c.complete.ensures.derives.survives.counts
-    (λ lacks held. lacks (book_of held.new) (can_complete o l old.now.trees mid.now.trees raised.1 held)) (c.complete.ensures.derives.faults clean (c.in-Ok.ensures.raised.inside before inside) raised.0)
+    let before = clean_before mid new c.complete.ensures.derives.says.survives clean in
+    let raised = c.in-Ok.ensures.raised.says.change before inside was in
+    faults_on (StandsForNone o l) (LacksRaised o l) old mid new c.complete.result c.in-Ok.ensures.raised.says.survives before c.complete.ensures.derives.says.survives.counts
+    (λ lacks held. lacks (book_of held.new) (can_complete o l old.now.trees mid.now.trees raised.1 held)) (c.complete.ensures.derives.says.faults clean (c.in-Ok.ensures.raised.says.inside before inside) raised.0)
 
 pub returns-in-Err-clause-faults : goal.returns-in-Err-clause-faults
 returns-in-Err-clause-faults g c clean inside was =

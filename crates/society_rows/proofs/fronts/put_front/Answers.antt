@@ -1,4 +1,4 @@
-use Rattle.std.proofs.Common.{refl}
+use Rattle.std.proofs.Common.{refl, rules}
 use Rattle.sqlite.specs.Held.{state}
 use Rattle.society_rows.specs.declared.tables.TableName.TheVariants as name
 use Rattle.society_rows.specs.Layout.{fronts, written_out}
@@ -15,12 +15,15 @@ use Rattle.society_rows.proofs.fronts.put_front.Goals as goal
 
 pub returns-clause-written : goal.returns-clause-written
 unfolding settled written_out
-returns-clause-written g c =
-    let row = c.args.row.now in
-    let old = state g.S.Store c.args.tx.now.conn.now in
-    let new = state g.S.Store c.run.new.tx.conn.now in
-    writes_by HasLayout old new put_front_text (front_values row) c.run.result (Puts fronts (front_values row)) (λ clean inside. rw c.params.ensures at (c.run.ensures.ran clean inside)) c.run.ensures.survives
-    (λ count. puts (settled name.Fronts) (λ cuts payments. refl) (front_put row) old new count)
+returns-clause-written g c = record {
+  same_reference = search rules;
+  says =
+      let row = c.args.row.now in
+      let old = state g.S.Store c.args.tx.now.conn.now in
+      let new = state g.S.Store c.run.new.tx.conn.now in
+      writes_by HasLayout old new put_front_text (front_values row) c.run.result (Puts fronts (front_values row)) (λ clean inside. rw c.params.ensures at (c.run.ensures.ran clean inside)) c.run.ensures.survives
+      (λ count. puts (settled name.Fronts) (λ cuts payments. refl) (front_put row) old new count);
+}
 
 pub returns-clause-err : goal.returns-clause-err
 unfolding written_out

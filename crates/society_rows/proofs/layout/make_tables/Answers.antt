@@ -1,4 +1,4 @@
-use Rattle.std.proofs.Common.{◌≡◌, ◌∙◌, ◌+◌, [], Ok, Err, refl, ap, arith}
+use Rattle.std.proofs.Common.{◌≡◌, ◌∙◌, ◌+◌, [], Ok, Err, refl, ap, arith, rules}
 use Rattle.sqlite.specs.Held.{state}
 use Rattle.sqlite.specs.Effect.{Database}
 use Rattle.society_rows.specs.Layouts.{HasFirst}
@@ -31,20 +31,26 @@ loop-at-preserved g c =
     }
 
 pub returns-clause-made : goal.returns-clause-made
-returns-clause-made g c =
-    let from = c.args.from in
-    writes_as (HasFirst from) (HasFirst from) (state g.S.Store c.args.tx.now.conn.now) (state g.S.Store c.loop-at.tx.conn.now) (Ok tt) (Grows from c.loop-at.at) (Extends from) (λ has. has)
-    (all_made from c.loop-at.at c.requires.some (omega (arith, c.loop-at-test.false))) c.loop-at.invariant.made
+returns-clause-made g c = record {
+  same_reference = search rules;
+  says =
+      let from = c.args.from in
+      writes_as (HasFirst from) (HasFirst from) (state g.S.Store c.args.tx.now.conn.now) (state g.S.Store c.loop-at.tx.conn.now) (Ok tt) (Grows from c.loop-at.at) (Extends from) (λ has. has)
+      (all_made from c.loop-at.at c.requires.some (omega (arith, c.loop-at-test.false))) c.loop-at.invariant.made;
+}
 
 pub returns-in_err-run-clause-made : goal.returns-in_err-run-clause-made
-returns-in_err-run-clause-made g c =
-    let at = c.loop-at.at in
-    let from = c.args.from in
-    let first = state g.S.Store c.args.tx.now.conn.now in
-    let old = state g.S.Store c.loop-at.tx.conn.now in
-    let new = state g.S.Store c.run.new.tx.conn.now in
-    writes_fail (HasFirst from) (HasFirst at) first old new tt (Grows from at) (Extends from) (λ d e h. first_of h.first) _ _ c.in_err-run.field-0.0 c.from_residual.result c.from_residual.ensures.0 c.loop-at.invariant.made
-    c.in_err-run.ensures.ran c.in_err-run.ensures.survives
+returns-in_err-run-clause-made g c = record {
+  same_reference = search rules;
+  says =
+      let at = c.loop-at.at in
+      let from = c.args.from in
+      let first = state g.S.Store c.args.tx.now.conn.now in
+      let old = state g.S.Store c.loop-at.tx.conn.now in
+      let new = state g.S.Store c.run.new.tx.conn.now in
+      writes_fail (HasFirst from) (HasFirst at) first old new tt (Grows from at) (Extends from) (λ d e h. first_of h.first) _ _ c.in_err-run.field-0.0 c.from_residual.result c.from_residual.ensures.0 c.loop-at.invariant.made
+      c.in_err-run.ensures.ran c.in_err-run.ensures.survives;
+}
 
 pub returns-in_err-run-clause-err : goal.returns-in_err-run-clause-err
 returns-in_err-run-clause-err g c =

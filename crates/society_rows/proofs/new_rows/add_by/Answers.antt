@@ -1,4 +1,4 @@
-use Rattle.std.proofs.Common.{refl}
+use Rattle.std.proofs.Common.{refl, rules}
 use Rattle.sqlite.specs.Held.{state}
 use Rattle.society_rows.specs.NewRows.{rows_added, insert_text, one_after_another}
 use Rattle.society_rows.specs.Stored.{HasLayout, Adds}
@@ -12,12 +12,15 @@ use Rattle.society_rows.proofs.lemmas.errors.Writings.{insert_codes}
 use Rattle.society_rows.proofs.new_rows.add_by.Goals as goal
 
 pub returns-clause-written : goal.returns-clause-written
-returns-clause-written g c =
-    let it = rows_added c.args.rows in
-    let old = state g.S.Store c.args.tx.now.conn.now in
-    let new = state g.S.Store c.run.new.tx.conn.now in
-    writes_by HasLayout old new (insert_text c.args.rows) (one_after_another it.rows) c.run.result (Adds (table_called it.table) it.rows) (λ clean inside. rw (c.insert_of.ensures, c.requires) at (c.run.ensures.ran clean inside)) c.run.ensures.survives
-    (λ count. adds (settled it.table) (inserted c.args.rows) old new count)
+returns-clause-written g c = record {
+  same_reference = search rules;
+  says =
+      let it = rows_added c.args.rows in
+      let old = state g.S.Store c.args.tx.now.conn.now in
+      let new = state g.S.Store c.run.new.tx.conn.now in
+      writes_by HasLayout old new (insert_text c.args.rows) (one_after_another it.rows) c.run.result (Adds (table_called it.table) it.rows) (λ clean inside. rw (c.insert_of.ensures, c.requires) at (c.run.ensures.ran clean inside)) c.run.ensures.survives
+      (λ count. adds (settled it.table) (inserted c.args.rows) old new count);
+}
 
 pub returns-clause-err : goal.returns-clause-err
 returns-clause-err g c =

@@ -1,4 +1,4 @@
-use Rattle.std.proofs.Common.{refl}
+use Rattle.std.proofs.Common.{refl, rules}
 use Rattle.sqlite.specs.Held.{state}
 use Rattle.society_rows.specs.declared.tables.TableName.TheVariants as name
 use Rattle.society_rows.specs.Layout.{written_out}
@@ -13,10 +13,13 @@ use Rattle.society_rows.proofs.lemmas.errors.Writings.{update_codes}
 use Rattle.society_rows.proofs.raising.rename.Goals as goal
 
 pub returns-clause-renamed : goal.returns-clause-renamed
-returns-clause-renamed g c =
-    let old = state g.S.Store c.args.tx.now.conn.now in
-    let new = state g.S.Store c.run.new.tx.conn.now in
-    writes_by HasLayout old new update_text newest c.run.result Renames (λ clean inside. rw (c.to_sql.ensures) at (c.run.ensures.ran clean inside)) c.run.ensures.survives (renames old new)
+returns-clause-renamed g c = record {
+  same_reference = search rules;
+  says =
+      let old = state g.S.Store c.args.tx.now.conn.now in
+      let new = state g.S.Store c.run.new.tx.conn.now in
+      writes_by HasLayout old new update_text newest c.run.result Renames (λ clean inside. rw (c.to_sql.ensures) at (c.run.ensures.ran clean inside)) c.run.ensures.survives (renames old new);
+}
 
 pub returns-clause-err : goal.returns-clause-err
 unfolding written_out

@@ -1,4 +1,4 @@
-use Rattle.std.proofs.Common.{◌≡◌, ◌∙◌, ◌||◌, ◌+◌, List, ℕ, Ok, ap, arith, bytes_eq, refl, subst, sym, take}
+use Rattle.std.proofs.Common.{◌≡◌, ◌∙◌, ◌||◌, ◌+◌, List, ℕ, Ok, ap, arith, bytes_eq, refl, subst, sym, take, rules}
 use Rattle.std.proofs.lemmas.List.Folds.{list_any_more}
 use Rattle.std.proofs.lemmas.List.{take_all}
 use Rattle.std.specs.List.{list_any}
@@ -28,22 +28,25 @@ loop-sender-preserved g c =
     let new = state g.S.Store c.list_sender.new.tx.conn.now in
     let next = λ (q : List ℕ). list_any_more (λ (one : List ℕ). bytes_eq one q) senders i sender (omega (arith, c.loop-sender-test.true)) ∙ ap (λ (one : List ℕ). list_any (λ (one : List ℕ). bytes_eq one q) (take i senders) || bytes_eq one q) (sym c.sender-item.is) in
     record {
-      same_reference = c.list_sender.ensures.same_reference ∙ c.loop-sender.invariant.same_reference;
-      looks = looks_then old mid new tt (Ok tt) _ _ _ c.loop-sender.invariant.looks c.in_ok-list_sender.ensures.looks
+      same_reference = c.list_sender.ensures.looks.same_reference ∙ c.loop-sender.invariant.same_reference;
+      looks = looks_then old mid new tt (Ok tt) _ _ _ c.loop-sender.invariant.looks c.in_ok-list_sender.ensures.looks.says
           (λ y first second. one_sender_more wanted c.loop-sender.works c.list_sender.new.self sender (λ q. list_any (λ (one : List ℕ). bytes_eq one q) (take i senders)) (λ q. list_any (λ (one : List ℕ). bytes_eq one q) (take (i + 1) senders)) old.now.trees next c.in_ok-list_sender.ensures.more first second);
     }
 
 pub returns-clause-looks : goal.returns-clause-looks
-returns-clause-looks g c =
-    let senders = c.as_slice-sender-items.result.now in
-    let works = c.loop-sender.works in
-    let wanted = c.args.self.now in
-    let old = state g.S.Store c.args.tx.now.conn.now in
-    let db = old.now.trees in
-    let keys : senders ≡ wanted.senders.keys = c.as_slice-sender-items.ensures.value ∙ c.in_ok-senders.ensures in
-    looks_as old (state g.S.Store c.loop-sender.tx.conn.now) tt (Ok works) _ _ c.loop-sender.invariant.looks
-    (λ lists. all_senders_listed wanted works (λ q. list_any (λ (one : List ℕ). bytes_eq one q) senders) db (λ s is. among_turned s senders ∙ ap (list_any (bytes_eq s)) keys ∙ any_bytes s wanted.senders.keys ∙ is)
-    (subst (λ (l : List (List ℕ)). ListsSender (λ q. list_any (λ (one : List ℕ). bytes_eq one q) l) wanted.recordings works db) (take_all c.loop-sender.sender-index senders c.loop-sender-test.false) lists))
+returns-clause-looks g c = record {
+  same_reference = search rules;
+  says =
+      let senders = c.as_slice-sender-items.result.now in
+      let works = c.loop-sender.works in
+      let wanted = c.args.self.now in
+      let old = state g.S.Store c.args.tx.now.conn.now in
+      let db = old.now.trees in
+      let keys : senders ≡ wanted.senders.keys = c.as_slice-sender-items.ensures.value ∙ c.in_ok-senders.ensures in
+      looks_as old (state g.S.Store c.loop-sender.tx.conn.now) tt (Ok works) _ _ c.loop-sender.invariant.looks
+      (λ lists. all_senders_listed wanted works (λ q. list_any (λ (one : List ℕ). bytes_eq one q) senders) db (λ s is. among_turned s senders ∙ ap (list_any (bytes_eq s)) keys ∙ any_bytes s wanted.senders.keys ∙ is)
+      (subst (λ (l : List (List ℕ)). ListsSender (λ q. list_any (λ (one : List ℕ). bytes_eq one q) l) wanted.recordings works db) (take_all c.loop-sender.sender-index senders c.loop-sender-test.false) lists));
+}
 
 pub returns-in_err-senders-clause-err : goal.returns-in_err-senders-clause-err
 returns-in_err-senders-clause-err g c =
@@ -52,4 +55,4 @@ returns-in_err-senders-clause-err g c =
 pub returns-in_err-list_sender-clause-err : goal.returns-in_err-list_sender-clause-err
 returns-in_err-list_sender-clause-err g c =
     errs_passed (Unit {0}) HoldNoWorks HoldNoWorks (state g.S.Store c.args.tx.now.conn.now) (state g.S.Store c.loop-sender.tx.conn.now) (state g.S.Store c.list_sender.new.tx.conn.now) tt _ c.from_residual-in_err-list_sender.result _ _
-    c.loop-sender.invariant.looks c.in_err-list_sender.ensures.looks c.in_err-list_sender.ensures.err c.from_residual-in_err-list_sender.ensures.1 (λ first no. no)
+    c.loop-sender.invariant.looks c.in_err-list_sender.ensures.looks.says c.in_err-list_sender.ensures.err c.from_residual-in_err-list_sender.ensures.1 (λ first no. no)

@@ -1,4 +1,4 @@
-use Rattle.std.proofs.Common.{List, Ok, [], inl, inr, subst, sym}
+use Rattle.std.proofs.Common.{List, Ok, [], inl, inr, subst, sym, rules}
 use Rattle.society_book.proofs.lemmas.rows_alike.KeyRows.{transmission_shows_by}
 use Rattle.society_book.proofs.lemmas.together.StepLemmas.{looks_as, looks_of}
 use Rattle.society_book.specs.Shown.{ShowBody}
@@ -26,11 +26,14 @@ kept_weighed weighing key rows old new db shows keeps are = λ b holds k version
 ]
 
 pub returns-clause-looks : goal.returns-clause-looks
-returns-clause-looks g c =
-    let key = c.args.key.now in
-    let old = state g.S.Store c.args.tx.now.conn.now in
-    let new = state g.S.Store c.answer.new.tx.conn.now in
-    looks_as old new _ (Ok tt) _ _ (looks_of old new (Ok _) _ (rw (c.as_bytes.ensures.bytes, c.value.ensures.value) at c.in_ok-rows.ensures.read))
-    (λ lists. kept_weighed c.args.weighing.now key c.as_slice.result.now c.args.self.now c.keep_shown.new.self old.now.trees
-    (λ b holds. subst (ShowBody (body_at b key.sender key.number)) (sym c.as_slice.ensures.value) (transmission_shows_by b _ holds.kept.transmissions key _ lists))
-    c.in_ok-keep_shown.ensures.kept)
+returns-clause-looks g c = record {
+  same_reference = search rules;
+  says =
+      let key = c.args.key.now in
+      let old = state g.S.Store c.args.tx.now.conn.now in
+      let new = state g.S.Store c.answer.new.tx.conn.now in
+      looks_as old new _ (Ok tt) _ _ (looks_of old new (Ok _) _ (rw (c.as_bytes.ensures.bytes, c.value.ensures.value) at c.in_ok-rows.ensures.read.says))
+      (λ lists. kept_weighed c.args.weighing.now key c.as_slice.result.now c.args.self.now c.keep_shown.new.self old.now.trees
+      (λ b holds. subst (ShowBody (body_at b key.sender key.number)) (sym c.as_slice.ensures.value) (transmission_shows_by b _ holds.kept.transmissions key _ lists))
+      c.in_ok-keep_shown.ensures.kept);
+}
