@@ -297,6 +297,15 @@ def opened(program, path):
         return server.processor, server.seconds, peak_memory(server.process.pid)
 
 
+def audit_seconds(program, path):
+    """The processor seconds of an audit that finds a file sound."""
+    process = subprocess.Popen([program, "audit", "--db", path, *OFFICE], stdout=subprocess.DEVNULL)
+    _, status, used = os.wait4(process.pid, 0)
+    process.returncode = os.waitstatus_to_exitcode(status)
+    assert process.returncode == 0, process.returncode
+    return used.ru_utime + used.ru_stime
+
+
 def new_database():
     """A path of a file that is not there yet, in a folder of its own that stays."""
     return pathlib.Path(tempfile.mkdtemp()) / "office.db"

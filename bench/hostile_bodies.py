@@ -5,6 +5,7 @@ Each case is one stream of requests to `society replay`; a put is followed by th
 of the run with the least processor time (user and system), its processor seconds, the seconds that passed, the peak memory of the
 program in MB, the bytes in and out, and how many answers of each status came. The last line says whether a case took over 2 s.
 """
+import chosen
 import common
 from common import CSV_HEADER, FIRST, FIRST_LINES, MAX_BODY, NO_WORKS, get, put_pool, request
 
@@ -438,6 +439,22 @@ def escapes_in_every_parameter():
     text += request("PUT", f"/v1/returns/{escaped(1_350)}/{escaped(1_350)}")
     text += request("PUT", f"/v1/senders/{escaped(1_350)}/files/{escaped(1_350)}") + request("PUT", f"/v1/senders/{escaped(1_350)}/segments/{escaped(1_350)}")
     return text * (MAX_BODY // len(text))
+
+
+def works_of(numbers):
+    """Files of clean works with these numbers."""
+    parts = [numbers[first : first + 1_000] for first in range(0, len(numbers), 1_000)]
+    return b"".join(put(common.works_file(1, len(part), number=lambda k: part[k - 1]), place) for place, part in enumerate(parts, 1))
+
+
+@case
+def work_numbers_chosen_against_a_hash():
+    return works_of(chosen.numbers(130_000, 14))
+
+
+@case
+def as_many_other_work_numbers():
+    return works_of([b"W%011d" % (it * 8_191) for it in range(1, 130_001)])
 
 
 @case

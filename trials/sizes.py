@@ -1,4 +1,6 @@
 """The sizes that are promised: each is answered as a small one is."""
+import common
+from chosen import numbers as chosen_numbers
 from common import CSV_HEADER, FIRST, MAX_BODY, NO_WORKS, SENDER, changed, get, isrc, put_file, put_named, put_pool, put_return, state_end, works_file
 from program import Server, answer, applied, replayed, slow, told, trial
 
@@ -98,6 +100,27 @@ def the_longest_bodies(program, folder):
     told("the pool", last_of(out), table)
     known = answer(b"200 OK", b'{"front":1,"state":"applied"}')
     told("opened again", again, known + out[len(taken) :])
+
+
+def audited_in(program, folder, numbers):
+    """The least processor seconds of three audits of a file of these works."""
+    path, per = folder / f"{numbers[-1].decode()}.db", 1_000
+    parts = [numbers[first : first + per] for first in range(0, len(numbers), per)]
+    files = [put_file(works_file(1, len(part), number=lambda k: part[k - 1]), place) for place, part in enumerate(parts, 1)]
+    with Server(program, folder, path.name) as server:
+        told("applied", server.sent(b"".join(files)).count(b'"state":"applied"'), len(parts))
+        told("a normal end", server.ended().status, 0)
+    return min(common.audit_seconds(program, path) for _ in range(3))
+
+
+@slow
+@trial
+def numbers_that_a_sender_chooses(program, folder):
+    """65,000 work numbers that would begin at one group of a hashed table take a start no longer than others do."""
+    count = 65_000
+    chosen = audited_in(program, folder, chosen_numbers(count, 13))
+    others = audited_in(program, folder, [b"W%011d" % (it * 8_191) for it in range(1, count + 1)])
+    told("as soon as others", chosen <= 1.3 * others, True)
 
 
 # Small rows: a name, the requests, and the bodies of the answers wanted.

@@ -6,3 +6,4 @@ pub mod CutLemmas
 pub mod CleanLemmas
 pub mod NextLemmas
 pub mod EndLemmas
+pub mod EntryLemmas

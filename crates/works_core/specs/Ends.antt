@@ -1,10 +1,10 @@
 -- What is known at the end of a sender's line.
 use Rattle.std.specs.Prelude.{ℕ, ◌+◌, ◌≡◌, ◌∷◌, ◌||◌, Bool, IsTrue, List, Option, Some, None, ⊤, if◌then◌else◌}
 use Rattle.std.specs.List.{AllByRecursion}
-use Rattle.std.specs.HashMap.{get}
+use Rattle.std.specs.BTreeMap as tree
 use Rattle.std.specs.Str.{bytes_eq}
 use Rattle.cwr_records.specs.declared.work.TransactionKind.TheVariants.{Nwr, Rev}
-use Rattle.works_core.specs.Tracks.{placed_in, work_key_of, same_key}
+use Rattle.works_core.specs.Tracks.{number_cmp, placed_in}
 use Rattle.works_core.specs.Verdicts.{verdict_of, verdicts_from, works_in}
 use Rattle.works_core.specs.Versions.{Placed, judged_of, last_version, placed_behind}
 use Rattle.works_core.specs.declared.judged.Judged.{Judged}
@@ -16,7 +16,7 @@ use Rattle.works_core.specs.declared.works.TransactionPlace.{TransactionPlace}
 
 -- the last version that is kept of a work
 abbrev pub last_in : LineEnd → List ℕ → Option WorkVersion
-last_in end work = get same_key end.last (work_key_of work)
+last_in end work = tree.get number_cmp end.last work
 
 -- the number of works, and the last versions of the works that are known, are those at the end of some transactions; no other version is told
 pub record EndsAt (known : List ℕ → Bool) (past : List Placed) (end : LineEnd) : Type 0 where

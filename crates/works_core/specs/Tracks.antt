@@ -1,28 +1,35 @@
 -- Representation, not meaning: what is kept of the transactions that came so far.
-use Rattle.std.specs.Prelude.{ℕ, ◌+◌, ◌≡◌, ◌≤◌, Bool, List, [], ◌∷◌, ◌++◌, Option, Some, None, if◌then◌else◌, vec_len}
-use Rattle.std.specs.HashMap.{get, hash_map_len, spare}
-use Rattle.std.specs.Str.{bytes_eq}
+use Rattle.std.specs.Prelude.{ℕ, ◌+◌, ◌≡◌, ◌<◌, ◌≤◌, ⊤, true, List, [], ◌∷◌, ◌++◌, Option, Some, None, get_or, if◌then◌else◌, is_some, length, vec_len}
+use Rattle.std.specs.BTreeMap as tree
+use Rattle.std.specs.Cmp.Lexicographic.{slice_cmp}
+use Rattle.std.specs.Ordering.{nat_cmp}
+use Rattle.std.specs.declared.cmp.Ordering.{Ordering}
 use Rattle.std.specs.Vec.{vec_capacity}
 use Rattle.works_core.specs.Verdicts.{is_accepted, works_in}
 use Rattle.works_core.specs.Versions.{Placed, judged_of, is_version, placed_at, version_of}
 use Rattle.works_core.specs.declared.judged.Judged.{Judged}
 use Rattle.works_core.specs.declared.judged.Judged.TheVariants.{Clean, Faulty}
-use Rattle.works_core.specs.declared.key.WorkKey.{WorkKey}
 use Rattle.works_core.specs.declared.version.LinkedVersion.{LinkedVersion}
 use Rattle.works_core.specs.declared.works.TransactionPlace.{TransactionPlace}
 use Rattle.works_core.specs.declared.works.Works.{Works}
 
--- a work number as a key
-abbrev pub work_key_of : List ℕ → WorkKey
-work_key_of work = record { number = work }
+-- the order in which work numbers are kept
+abbrev pub number_cmp : List ℕ → List ℕ → Ordering
+number_cmp v w = slice_cmp nat_cmp v w
 
--- whether two keys are one
-abbrev pub same_key : WorkKey → WorkKey → Bool
-same_key x y = bytes_eq x.number y.number
+-- a place in the entry of a work, where there is an entry and it has a place
+abbrev pub place_in : Option (Option ℕ) → Option ℕ
+place_in None = None
+place_in (Some place) = place
 
 -- the place of the last version that is kept of a work
 abbrev pub kept_index : Works → List ℕ → Option ℕ
-kept_index works work = get same_key works.last (work_key_of work)
+kept_index works work = place_in (tree.get number_cmp works.last work)
+
+-- the work of a transaction has an entry, where it is clean
+abbrev pub HasEntry : Works → Judged → Type 0
+HasEntry works (Clean kind number) = is_some (tree.get number_cmp works.last number) ≡ true
+HasEntry works (Faulty fault) = ⊤
 
 -- a transaction that stands at a place
 abbrev pub placed_in : TransactionPlace → Judged → Placed
@@ -57,14 +64,33 @@ linked_versions (t ∷ past) =
 pub record Tracks (works : Works) (past : List Placed) : Type 0 where
   pub last : (work : List ℕ) → kept_index works work ≡ last_index work past
   pub versions : works.versions.items ≡ linked_versions past
-  pub count : hash_map_len works.last ≡ works_in (judged_of past)
+  pub count : works.count ≡ works_in (judged_of past)
 
 -- the works that are kept are those of some transactions
 pub record IsTracked (works : Works) : Type 0 where
   pub past : List Placed
   pub tracks : Tracks works past
 
--- so many transactions more can be taken in without memory
-pub record HasRoomFor (count : ℕ) (works : Works) : Type 0 where
-  pub keys : count ≤ spare works.last
-  pub links : vec_len works.versions + count ≤ vec_capacity works.versions
+-- no entry is gone
+abbrev pub KeepsEntries : Works → Works → Type 0
+KeepsEntries old new = (judged : Judged) → HasEntry old judged → HasEntry new judged
+
+-- so many versions more can be taken in without memory
+abbrev pub HasLinks : ℕ → Works → Type 0
+HasLinks count works = vec_len works.versions + count ≤ vec_capacity works.versions
+
+-- the works of these transactions have entries
+abbrev pub HasEntries : Works → List Judged → Type 0
+HasEntries works transactions = (k : ℕ) (judged : Judged) → k < length transactions → judged ≡ get_or transactions k judged → HasEntry works judged
+
+-- these transactions can be taken in without memory
+pub record HasRoomFor (transactions : List Judged) (works : Works) : Type 0 where
+  pub entries : HasEntries works transactions
+  pub links : HasLinks (length transactions) works
+
+-- the same works are kept, perhaps with more entries
+pub record KeepsWorks (old new : Works) : Type 0 where
+  pub entries : KeepsEntries old new
+  pub last : (work : List ℕ) → kept_index new work ≡ kept_index old work
+  pub versions : new.versions ≡ old.versions
+  pub count : new.count ≡ old.count

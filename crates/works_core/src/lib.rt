@@ -2,7 +2,6 @@
 #![tactic(auto)]
 
 mod judged;
-mod key;
 mod line_end;
 mod recordings;
 mod sender_line;

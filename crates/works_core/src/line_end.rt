@@ -6,13 +6,12 @@ ghost use Rattle.works_core.specs.Verdicts.{works_in};
 ghost use Rattle.works_core.specs.Versions.{Placed, judged_of, next_verdict};
 
 use crate::judged::Judged;
-use crate::key::WorkKey;
 use crate::verdict::{Verdict, next_verdict};
 use crate::version::WorkVersion;
 use crate::works::TransactionPlace;
 use cwr_records::TransactionKind;
 use std::alloc::{AllocError, AllocFailed, Global};
-use std::collections::HashMap;
+use std::collections::BTreeMap;
 use thiserror::Error;
 use work_ids::{TransmissionNumber, WorkNumber};
 
@@ -32,7 +31,7 @@ pub enum LineFault {
 #[derive(Drop)]
 pub struct LineEnd {
     works: u64,
-    last: HashMap<WorkKey, WorkVersion>,
+    last: BTreeMap<WorkNumber, WorkVersion>,
 }
 
 impl From<AllocError> for LineFault {
@@ -82,7 +81,7 @@ impl LineEnd {
     {
         LineEnd {
             works,
-            last: HashMap::new(alloc),
+            last: BTreeMap::new(alloc),
         }
     }
 
@@ -108,7 +107,7 @@ impl LineEnd {
         ensures works { self.new.works ≡ self.old.works }
         ensures last { OnOk result ((other : List ℕ) → last_in self.new other ≡ (if bytes_eq work other then Some version else last_in self.old other)) }
     {
-        self.last.insert(WorkKey { number: work }, version)?;
+        self.last.insert(work, version)?;
         Ok(())
     }
 
@@ -117,7 +116,7 @@ impl LineEnd {
         ensures { result ≡ known_version self.now judged.now }
     {
         match *judged {
-            Judged::Clean(_, work) => self.last.get(&WorkKey { number: work }).copied(),
+            Judged::Clean(_, work) => self.last.get(&work).copied(),
             Judged::Faulty(_) => None,
         }
     }

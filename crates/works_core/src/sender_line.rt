@@ -8,7 +8,6 @@ ghost use Rattle.works_core.specs.Versions.{judged_of, placed_behind, Placed, wo
 ghost use Rattle.work_ids.specs.Segments.{greatest_rank};
 
 use crate::judged::Judged;
-use crate::key::WorkKey;
 use crate::verdict::Verdict;
 use crate::version::WorkVersion;
 use crate::works::{TransactionPlace, Works};
@@ -107,7 +106,7 @@ fn settle_all(
     verdicts: &mut Vec<Verdict>,
 )
     requires tracked { IsTracked works.old }
-    requires room { HasRoomFor (length transactions.now) works.old }
+    requires room { HasRoomFor transactions.now works.old }
     requires verdict_room { vec_len verdicts.old + length transactions.now ≤ vec_capacity verdicts.old }
     ensures verdicts { (past : List Placed) → Tracks works.old past → verdicts.new.items ≡ verdicts.old.items ++ verdicts_from (judged_of past) transactions.now }
     ensures tracks { (past : List Placed) → Tracks works.old past → Tracks works.new (placed_behind past transmission 0 transactions.now) }
@@ -151,7 +150,7 @@ impl SenderLine {
         let alloc = *self.kept.allocator();
         let judged = judge_all(alloc, transmission, &self.office)?;
         let mut verdicts = Vec::with_capacity(alloc, judged.len())?;
-        self.works.reserve(judged.len())?;
+        self.works.reserve(judged.as_slice())?;
         self.kept.reserve(1)?;
         settle_all(&mut self.works, number, judged.as_slice(), &mut verdicts);
         let kept = KeptTransmission {
@@ -193,7 +192,7 @@ impl SenderLine {
         ensures { result ≡ work_at self.now.transmissions work.now cut }
     {
         let works = &self.works;
-        let mut index = works.last.get(&WorkKey { number: *work }).copied();
+        let mut index = works.last_index(work);
         while let Some(at) = index {
             let linked = &works.versions[at];
             let version = linked.version;

@@ -96,6 +96,24 @@ versions_of-le w (t ∷ past) = more (is_accepted (judged_of past) t.judged) (co
     more true false h = omega arith
     more false c h = h
 
+-- there are at most so many works as transactions are accepted
+pub works_in-le : (past : List Placed) → works_in (judged_of past) ≤ accepted_in past
+works_in-le [] = omega arith
+works_in-le (t ∷ past) = by_kind t.judged (works_in-le past)
+  where
+    by_kind : (x : Judged) → works_in (judged_of past) ≤ accepted_in past → works_in (x ∷ judged_of past) ≤ (if is_accepted (judged_of past) x then accepted_in past + 1 else accepted_in past)
+    by_kind (Faulty f) h = h
+    by_kind (Clean Nwr n) h = begun (is_registered n (judged_of past)) h
+      where
+        begun : (b : Bool) → works_in (judged_of past) ≤ accepted_in past → (if not b then works_in (judged_of past) + 1 else works_in (judged_of past)) ≤ (if not b then accepted_in past + 1 else accepted_in past)
+        begun true h = h
+        begun false h = omega arith
+    by_kind (Clean Rev n) h = revised (is_registered n (judged_of past)) h
+      where
+        revised : (b : Bool) → works_in (judged_of past) ≤ accepted_in past → works_in (judged_of past) ≤ (if b then accepted_in past + 1 else accepted_in past)
+        revised true h = omega arith
+        revised false h = h
+
 -- one that is accepted becomes the last version of its work
 pub last_index-accepted : (past : List Placed) (t : Placed) (w : List ℕ) → is_accepted (judged_of past) t.judged ≡ true → last_index w (t ∷ past) ≡ cond (concerns w t.judged) (Some (accepted_in past)) (last_index w past)
 last_index-accepted past t w e = ap (λ (b : Bool). if b && concerns w t.judged then Some (accepted_in past) else last_index w past) e

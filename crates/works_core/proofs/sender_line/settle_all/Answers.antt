@@ -1,5 +1,5 @@
 use Rattle.std.proofs.Common.{◌≡◌, ℕ, ◌+◌, ◌-◌, ◌<◌, List, [], ◌∷◌, ◌++◌, drop, length, sym, ap, subst, ◌∙◌, arith, suc, add-one, append_assoc, drop-cons, get_or}
-use Rattle.works_core.specs.Tracks.{HasRoomFor}
+use Rattle.works_core.specs.Tracks.{HasLinks}
 use Rattle.works_core.specs.Verdicts.{verdicts_from}
 use Rattle.works_core.specs.Versions.{judged_of, placed_at, placed_behind}
 use Rattle.works_core.specs.declared.judged.Judged.{Judged}
@@ -32,6 +32,7 @@ loop-place-preserved c =
                 ∙ before.2,
             ap (placed_behind now c.args.transmission place) (sym next) ∙ before.3,
           );
-      room = c.settle.ensures.room (length all - (place + 1)) (subst (λ (n : ℕ). HasRoomFor n c.loop-place.works) left c.loop-place.invariant.room);
+      entries = λ other there. c.settle.ensures.entries other (c.loop-place.invariant.entries other there);
+      room = c.settle.ensures.room (length all - (place + 1)) (subst (λ (n : ℕ). HasLinks n c.loop-place.works) left c.loop-place.invariant.room);
       verdict_room = (let room = c.loop-place.invariant.verdict_room in omega (arith, c.push.ensures.capacity, c.push.ensures.upper_bound));
     }

@@ -1,5 +1,5 @@
 use Rattle.std.proofs.Common.{◌≡◌, ◌++◌, ◌+◌, ◌-◌, ◌≤◌, List, drop, length, vec_len, vec_capacity}
-use Rattle.works_core.specs.Tracks.{HasRoomFor, Tracks}
+use Rattle.works_core.specs.Tracks.{HasLinks, KeepsEntries, Tracks}
 use Rattle.works_core.specs.Verdicts.{verdicts_from}
 use Rattle.works_core.specs.Versions.{Placed, judged_of, placed_behind}
 use Rattle.works_core.proofs.sender_line.settle_all.Given as goal
@@ -10,6 +10,7 @@ invariant-loop-place l = record {
   settled : (past : List Placed) → Tracks l.initial.works past →
       (now : List Placed) × Tracks l.works now × (l.verdicts.items ++ verdicts_from (judged_of now) (drop l.place l.transactions) ≡ l.initial.verdicts.items ++ verdicts_from (judged_of past) l.transactions)
       × (placed_behind now l.transmission l.place (drop l.place l.transactions) ≡ placed_behind past l.transmission 0 l.transactions);
-  room : HasRoomFor (length l.transactions - l.place) l.works;
+  entries : KeepsEntries l.initial.works l.works;
+  room : HasLinks (length l.transactions - l.place) l.works;
   verdict_room : vec_len l.verdicts + (length l.transactions - l.place) ≤ vec_capacity l.verdicts;
 }

@@ -27,9 +27,9 @@ invariant_of-self-2 c =
     let before = c.reserve.ensures.tracks (placed_line line) c.self.invariant.tracked in
     let told =
     c.settle_all.ensures.verdicts (placed_line line) before
-    ∙ ap (λ (vs : List Verdict). vs ++ verdicts_from (judged_of (placed_line line)) c.as_slice.result.now) c.in_ok-verdicts.ensures.items
-    ∙ ap (verdicts_from (judged_of (placed_line line))) c.as_slice.ensures.value in
-    let stand = ap (placed_behind (placed_line line) c.args.number 0) c.as_slice.ensures.value ∙ sym (placed_push [] line y) ∙ ap placed_line (sym lined) in
+    ∙ ap (λ (vs : List Verdict). vs ++ verdicts_from (judged_of (placed_line line)) c.as_slice-2.result.now) c.in_ok-verdicts.ensures.items
+    ∙ ap (verdicts_from (judged_of (placed_line line))) c.as_slice-2.ensures.value in
+    let stand = ap (placed_behind (placed_line line) c.args.number 0) c.as_slice-2.ensures.value ∙ sym (placed_push [] line y) ∙ ap placed_line (sym lined) in
     subst (λ (xs : List KeptTransmission). IsKeptLine xs c.settle_all.new.works) (sym all)
     (record {
       rises = subst (IsRising 0) (sym lined) (rising_push 0 line y c.self.invariant.rises (subst (λ (v : SenderLineValue). last_number 0 v.transmissions < c.args.number) (sym c.self.view_is) c.requires.above));

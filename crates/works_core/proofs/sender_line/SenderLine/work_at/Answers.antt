@@ -10,8 +10,8 @@ loop-index-init c =
     let inside = c.self.inside in
     let works = c.self.invariant.tracked in
     let line = kept_line inside.kept.items in
-    let start = walks_start line c.args.work.now c.args.cut inside.works.versions.items c.copied-index.result c.self.invariant.rises works.versions (c.copied-index.ensures ∙ c.get.ensures.value ∙ works.last c.args.work.now) in
-    subst (λ (v : SenderLineValue). Walks c.args.cut c.args.work.now (work_at v.transmissions c.args.work.now c.args.cut) inside.works.versions.items c.copied-index.result) c.self.view_is start
+    let start = walks_start line c.args.work.now c.args.cut inside.works.versions.items c.last_index-index.result c.self.invariant.rises works.versions (c.last_index-index.ensures ∙ works.last c.args.work.now) in
+    subst (λ (v : SenderLineValue). Walks c.args.cut c.args.work.now (work_at v.transmissions c.args.work.now c.args.cut) inside.works.versions.items c.last_index-index.result) c.self.view_is start
 
 pub index-linked-requires : goal.index-linked-requires
 index-linked-requires c =
