@@ -10,14 +10,14 @@ import time
 
 from common import FIRST, OFFICE, SENDER, get, put_file, request, works_file
 from leaving import CLOSED_AT_A_CUT, change, left_by
-from program import BAD, LIMIT, Ended, Server, acknowledgement, answer, applied, run, slow, told, trial
+from program import BAD, LIMIT, Ended, Other, Server, acknowledgement, answer, applied, run, slow, told, trial
 
 # What is answered to a body that is too long, at the end of its connection.
 TOO_LONG = b'HTTP/1.1 413 Payload Too Large\r\nContent-Type: application/json\r\nContent-Length: 16\r\nConnection: close\r\n\r\n{"error":"size"}'
 LONG_BODY = b"x" * (2 << 20)
 PATH = f"/v1/senders/{SENDER}/transmissions/1"
-# The most seconds between the end of a connection and the next one.
-PARTING = 4
+# The most seconds between the end of a connection and the next one: two, with room for a machine that has other work.
+PARTING = 20
 
 
 def connected(server):
@@ -134,7 +134,7 @@ def slow_and_silent_peers(program, folder):
             silent.sendall(b"GET /v1")
             begun = time.monotonic()
             told("the one after a silent peer", server.sent(get(f"/v1/senders/{SENDER}")), answer(b"200 OK", b'{"front":1,"held":[]}'))
-            told("when", 28 < time.monotonic() - begun < 30 + PARTING, True)
+            told("not before its time", time.monotonic() - begun > 28, True)
         told("its line", server.ended().out.splitlines()[2], b"connection 2: read fault after 0 requests")
 
 
@@ -177,23 +177,49 @@ def without_standard_streams(program, folder):
         told((closed, "audited"), run(program, folder, ["audit", "--db", f"{number}.db", *OFFICE]), Ended(b"sound\n", b"", 0))
 
 
-def limited(kind, limit):
-    """What sets a limit of the system for the program; where a file would grow past one it is told of that, and not ended."""
-    return {"preexec_fn": lambda: resource.setrlimit(kind, (limit, limit)), "restore_signals": False}
+def limited(kind, limit, later=0):
+    """What sets a limit of the system for the program, which may be raised later; where a file would grow past one it is told of that, and
+    not ended."""
+    return {"preexec_fn": lambda: resource.setrlimit(kind, (limit, max(limit, later))), "restore_signals": False}
+
+
+# Descriptors with which connections are accepted.
+ENOUGH = 64
+
+
+def without_descriptors(program, folder, connections):
+    """A server that has none left for a connection."""
+    for limit in range(4, 20):
+        server = Server(program, folder, "office.db", connections=connections, **limited(resource.RLIMIT_NOFILE, limit, ENOUGH))
+        if server.first:
+            return server
+        with server:
+            told("its status", server.ended().status, 1)
+    raise Other("it does not listen")
+
+
+@slow
+@trial
+def a_connection_that_cannot_be_accepted(program, folder):
+    """With no descriptor left for a connection it ends after half a minute; the file holds the book."""
+    with without_descriptors(program, folder, 2) as server:
+        begun = time.monotonic()
+        told("no descriptor is left", server.ended(), Ended(b"listening\n", b"society: cannot accept\n", 1))
+        told("not before its time", time.monotonic() - begun > 20, True)
+    told("audited", run(program, folder, ["audit", "--db", "office.db", *OFFICE]), Ended(b"sound\n", b"", 0))
 
 
 @trial
-def a_connection_that_cannot_be_accepted(program, folder):
-    """With no descriptor left for a connection it ends; the file holds the book."""
-    for limit in range(4, 20):
-        with Server(program, folder, "office.db", connections=2, **limited(resource.RLIMIT_NOFILE, limit)) as server:
-            ended = server.ended()
-        told("its status", ended.status, 1)
-        if ended.out:
-            # (the system refuses before anybody comes)
-            told("no descriptor is left", ended, Ended(b"listening\n", b"society: cannot accept\n", 1))
-            break
-    told("audited", run(program, folder, ["audit", "--db", "office.db", *OFFICE]), Ended(b"sound\n", b"", 0))
+def a_connection_that_is_accepted_later(program, folder):
+    """Where a descriptor is there again soon the peer that has waited is served, and nobody is told of it."""
+    with without_descriptors(program, folder, 1) as server:
+        with connected(server) as peer:
+            peer.sendall(put_file(FIRST, 1))
+            peer.shutdown(socket.SHUT_WR)
+            time.sleep(1)
+            resource.prlimit(server.process.pid, resource.RLIMIT_NOFILE, (ENOUGH, ENOUGH))
+            told("the peer", read_all(peer), applied(1))
+        told("its end", server.ended(), Ended(b"listening\nconnection 1: 1 requests\n", b"", 0))
 
 
 @trial

@@ -1,5 +1,7 @@
 """An office in a file: where there is none, where it is opened again, and where it is audited."""
+import os
 import socket
+import stat
 
 from common import FIRST, OFFICE, SENDER, get, put_file
 from program import ANOTHER_OFFICE, DAY, DAY_ANSWERS, EMPTY_DATABASE, ROW_NAMES, ROWS, SERVED_ONE, Ended, Server
@@ -32,6 +34,50 @@ def a_path_that_cannot_be_looked_at(program, folder):
     (folder / "office.db").write_bytes(b"")
     for row in WANTS_A_FILE:
         told(row, run_row(program, folder, row.replace("office.db", "office.db/office.db")), Ended(b"", b"society: database store\n", 1))
+
+
+@trial
+def what_is_no_file(program, folder):
+    """A device, a fifo and a folder are refused, whether an office has to be there or not, and left as they are."""
+    os.mkfifo(folder / "fifo")
+    (folder / "folder").mkdir()
+    refused = Ended(b"", b"society: database store\n", 1)
+    for path in ("/dev/null", "fifo", "folder"):
+        for row in (*WANTS_A_FILE, WANTS_A_FILE[0].replace("--existing|", "")):
+            told((path, row), run_row(program, folder, row.replace("office.db", path)), refused)
+    told("what is there", sorted(it.name for it in folder.iterdir()), ["fifo", "folder"])
+
+
+@trial
+def a_log_without_its_file(program, folder):
+    """A log with pages is what is left of an office: it is told as damage beside no file, and beside one of no byte, and stays."""
+    answered(program, folder, "office.db", put_file(FIRST, 1))
+    log = (folder / "office.db-wal").read_bytes()
+    for row, empty in (("no file", None), ("a file of no byte", b"")):
+        (folder / "office.db").unlink()
+        if empty is not None:
+            (folder / "office.db").write_bytes(empty)
+        for words in (*WANTS_A_FILE, WANTS_A_FILE[0].replace("--existing|", "")):
+            told((row, words), run_row(program, folder, words), Ended(b"", b"society: database damaged\n", 1))
+        told((row, "its log"), (folder / "office.db-wal").read_bytes() == log, True)
+        (folder / "office.db").touch()
+
+
+@trial
+def who_may_read_a_new_file(program, folder):
+    """Its owner alone, and its log too, under whatever mask; one that others may write is told of, and served."""
+    for mask in (0o000, 0o022, 0o077):
+        path = folder / f"{mask:o}.db"
+        with Server(program, folder, path.name, preexec_fn=lambda: os.umask(mask)) as server:
+            told("served", server.sent(put_file(FIRST, 1)), applied(1))
+            modes = [stat.S_IMODE(it.stat().st_mode) for it in (path, path.with_name(path.name + "-wal"))]
+            told((f"{mask:o}", "modes"), modes, [0o600, 0o600])
+            told((f"{mask:o}", "its end"), server.ended().err, b"")
+    path.chmod(0o620)
+    with Server(program, folder, path.name, existing=True) as server:
+        told("served", server.sent(put_file(FIRST, 1)), answer(b"200 OK", b'{"front":1,"state":"applied"}'))
+        told("told of", server.ended().err, b"society: others may write 77.db\n")
+    told("its mode stays", stat.S_IMODE(path.stat().st_mode), 0o620)
 
 
 @trial

@@ -22,6 +22,7 @@ import endings
 import files
 import leaving
 import openings
+import pauses
 import refused_memory
 import sizes
 import streams

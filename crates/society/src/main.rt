@@ -29,14 +29,15 @@ fn run(rt: &HostRuntime) -> u8 {
         Ok(args) => args,
         Err(error) => {
             let why = why_no_words(&error);
-            return exit_status(Err(why), &mut rt.stderr());
+            return exit_status(Err(why), &mut Counted::new(rt.stderr()));
         }
     };
     let Ok(words) = args.collect::<Vec<String>>(alloc) else {
-        return exit_status(Err(NoWords::Memory), &mut rt.stderr());
+        return exit_status(Err(NoWords::Memory), &mut Counted::new(rt.stderr()));
     };
     let mut reader = Counted::new(rt.stdin());
     let mut out = Counted::new(rt.stdout());
+    let mut err = Counted::new(rt.stderr());
     // A torn write may leave any bytes: nothing more is supposed of the files.
     let (outcome, left) = start(
         &Host::new(rt),
@@ -45,8 +46,8 @@ fn run(rt: &HostRuntime) -> u8 {
         words.as_slice(),
         &mut reader,
         &mut out,
-        &mut rt.stderr(),
+        &mut err,
     );
     drop(left);
-    exit_status(outcome, &mut rt.stderr())
+    exit_status(outcome, &mut err)
 }

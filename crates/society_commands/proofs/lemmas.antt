@@ -5,3 +5,4 @@ pub mod DatabaseLemmas
 pub mod RefusalLemmas
 pub mod ReplayLemmas
 pub mod TableLemmas
+pub mod UnusedLemmas

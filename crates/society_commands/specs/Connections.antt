@@ -1,5 +1,5 @@
 -- What connections come to that are served one after another, and the lines that are printed of them.
-use Rattle.std.specs.Prelude.{◌≡◌, ◌⊎◌, ℕ, ◌+◌, ◌<◌, ◌≤◌, Bool, true, false, IsTrue, List, [], ◌∷◌, ◌++◌, Option, None, Result, Ok, Err, codes, decimal, length}
+use Rattle.std.specs.Prelude.{◌≡◌, ◌⊎◌, ℕ, ◌+◌, ◌<◌, ◌≤◌, Bool, true, false, IsTrue, List, ⊤, [], ◌∷◌, ◌++◌, Option, Result, Ok, Err, codes, decimal, length}
 use Rattle.std.specs.Io.KnownBytes.{Appends}
 use Rattle.std.specs.List.{flat_map, AllByRecursion}
 use Rattle.std.specs.declared.net.socket_addr.SocketAddrV4.{SocketAddrV4}
@@ -12,8 +12,7 @@ use Rattle.http_desk.specs.declared.counted.Counted.{Counted}
 use Rattle.http_desk.specs.declared.fault.DeskFault.{DeskFault}
 use Rattle.share_rules.specs.declared.office.Office.{Office}
 use Rattle.sqlite.specs.Files.{file_state}
-use Rattle.sqlite.specs.Held.{Held}
-use Rattle.sqlite.specs.declared.file.Leftover.{Leftover}
+use Rattle.sqlite.specs.Held.{Held, IsNew}
 use Rattle.sqlite.specs.State as connection
 use Rattle.sqlite_trees.specs.Tree.{Trees}
 use Rattle.sqlite_disk.specs.declared.Disk as disk
@@ -33,16 +32,18 @@ use Rattle.society_opening.specs.Opening.{HasAnyLayout, IsOpenable, ShowsAs, Sur
 use Rattle.society_opening.specs.declared.open_fault.OpenFault.{OpenFault}
 use Rattle.society_opening.specs.declared.open_fault.OpenFault.TheVariants.{Empty, Store}
 use Rattle.society_arguments.specs.declared.words.Listening.{Listening}
-use Rattle.society_commands.specs.Closing.{HandsBack, IsRest}
+use Rattle.society_commands.specs.Closing.{HandsBack}
 use Rattle.society_commands.specs.Doors.{CameIn, HasAdmitted, IsLoopback}
-use Rattle.society_commands.specs.Replays.{fault_name}
+use Rattle.society_commands.specs.Replays.{fault_text}
 use Rattle.society_commands.specs.declared.door.Door.{Door}
 use Rattle.society_commands.specs.declared.host.Listen.{Ghosts as Listens}
 use Rattle.society_commands.specs.declared.host.OpenDatabase.{Ghosts as Opens}
 use Rattle.society_commands.specs.declared.left.Left.{Left}
 use Rattle.society_commands.specs.declared.left.Left.TheVariants as left
 use Rattle.society_commands.specs.declared.opening.Job.{Job}
-use Rattle.society_arguments.specs.Words.{Serving, serving_of}
+use Rattle.society_commands.specs.declared.trouble.Trouble.{Trouble}
+use Rattle.society_commands.specs.declared.trouble.Trouble.TheVariants.{Database, NoConnection, NoListener}
+use Rattle.society_arguments.specs.Words.{Asked, AsksAudit, AsksServe, Serving, serving_of}
 
 -- what is served by a job at an office
 abbrev pub serving_as : Job → Office → Serving
@@ -81,7 +82,7 @@ replies_given connections = flat_map (λ (c : Connection). c.replies) connection
 -- how a connection ended, and after how many requests (profile)
 abbrev pub outcome_text : Result Served DeskFault → List ℕ
 outcome_text (Ok served) = decimal served.requests
-outcome_text (Err fault) = fault_name fault.kind ++ codes " fault after " ++ decimal fault.requests
+outcome_text (Err fault) = fault_text fault
 
 -- the line of a connection under its number (profile)
 abbrev pub connection_line : ℕ → Result Served DeskFault → List ℕ
@@ -126,12 +127,12 @@ pub record ServesStore {N S W : Type 0} (net : Listens N) (state : S → State) 
 abbrev pub CannotListen : {N : Type 0} → Listens N → ℕ → Type 0
 CannotListen net port = (address : SocketAddrV4) × IsLoopback port address × net.may_fail_at address
 
--- serving over a store ended early: it could not listen, so the store is the same and nothing was printed; or fewer connections came than
--- were asked for, and then one could not be accepted
-abbrev pub StopsServingStore : {N S W : Type 0} → Listens N → (S → State) → S → S → (W → Option (List ℕ)) → Counted W → Counted W → Listening → Type 0
-StopsServingStore net state desk new_desk contents out new_out place =
-    (CannotListen net place.port × (new_desk ≡ desk) × (new_out ≡ out))
-    ⊎ ((count : ℕ) × (count < place.connections) × ServesStore net state desk new_desk contents out new_out place.port count true)
+-- serving over a store ended early, as is told: it could not listen, so the store is the same and nothing was printed; or fewer connections
+-- came than were asked for, and then one could not be accepted
+abbrev pub StopsServingStore : {N S W : Type 0} → Listens N → (S → State) → S → S → (W → Option (List ℕ)) → Counted W → Counted W → Listening → (Trouble → Type 0) → Type 0
+StopsServingStore net state desk new_desk contents out new_out place Told =
+    (CannotListen net place.port × (new_desk ≡ desk) × (new_out ≡ out) × Told NoListener)
+    ⊎ ((count : ℕ) × (count < place.connections) × ServesStore net state desk new_desk contents out new_out place.port count true × Told NoConnection)
 
 -- a book is that of the tables that older ones of an office were taken over into
 abbrev pub IsTakenBook : Office → OlderLayout → Trees → Book → Type 0
@@ -159,21 +160,24 @@ abbrev pub LeavesOpening : Bool → Office → connection.State → connection.S
 LeavesOpening true office found left = SurvivesTaking office found left
 LeavesOpening false office found left = SurvivesOpening office found left
 
--- A database was not opened as the office's: this is why, its connection shows what was committed, and a crash leaves what it left
+-- A database was not opened as the office's, for this fault: its connection shows what was committed, and a crash leaves what it left
 -- before or what opening may leave. Where it had to be an office's already and has no table, it is told as empty; a failure
 -- of the store is told only where there may have been one.
-pub record IsNotOpened (office : Office) (existing : Bool) (found left : connection.State) : Type 0 where
-  pub fault : OpenFault
+pub record IsNotOpened (office : Office) (existing : Bool) (fault : OpenFault) (found left : connection.State) : Type 0 where
   pub told : connection.HasCleanDisk left → IsTrue found.is_open → TellsDatabase office found.committed fault
   pub empty : IsTrue existing → IsTrue found.is_open → IsBare found.committed → fault ≡ Empty
   pub failed : WhenOpen found left (fault ≡ Store → MayFail found left)
   pub unchanged : connection.HasCleanDisk left → ShowsAs found.committed left
   pub crash : LeavesOpening existing office found left
 
--- A database that had to be an office's was not found to be a sound one: this is why, and it was left as it was, of whatever layout.
-pub record IsNotSound (office : Office) (found left : connection.State) : Type 0 where
-  pub not_opened : IsNotOpened office true found left
+-- A database that had to be an office's was not found to be a sound one, for this fault, and it was left as it was, of whatever layout.
+pub record IsNotSound (office : Office) (fault : OpenFault) (found left : connection.State) : Type 0 where
+  pub not_opened : IsNotOpened office true fault found left
   pub crash : connection.Survives found left (λ db. ⊥)
+
+-- and this fault was told
+abbrev pub TellsUnsound : Office → connection.State → connection.State → (Trouble → Type 0) → Type 0
+TellsUnsound office found left Told = (fault : OpenFault) × IsNotSound office fault found left × Told (Database fault)
 
 -- a database was found to hold a sound book of the office with what is derived from it, or to be of an older layout and stand for one that
 -- does; it shows that still, and a crash leaves what it left before
@@ -181,32 +185,37 @@ pub record IsSoundDatabase (office : Office) (found left : connection.State) : T
   pub sound : FindsSoundly office found left
   pub crash : connection.Survives found left (λ db. ⊥)
 
--- what a connection shows that was opened at a path: what it may show, and where a database had to be there, it was
-abbrev pub IsOpenedAt : {O F : Type 0} → Opens O F → List ℕ → Bool → connection.State → Type 0
-IsOpenedAt opener path existing s = opener.may_open path s × (IsTrue existing → opener.may_find path true)
+-- a connection was opened at a path: it is new, shows what it may show, and where a database had to be there, it was
+pub record IsOpenedAt {O F : Type 0} {g : disk.Ghosts F} (opens : Opens O F) (path : List ℕ) (existing : Bool) (conn : Held (FileStore F g)) : Type 0 where
+  pub new : IsNew conn
+  pub shows : opens.may_open path (file_state conn)
+  pub there : IsTrue existing → opens.may_find path true
 
--- no database was opened at a path: it had to be there and was not, which is told as empty and nothing is made; or it is refused
-abbrev pub IsRefusedAt : {O F : Type 0} {g : disk.Ghosts F} → Opens O F → List ℕ → Bool → OpenFault → Option (Leftover F g) → Type 0
-IsRefusedAt {g = g} opener path existing fault rest =
-    (IsTrue existing × opener.may_find path false × (fault ≡ Empty) × (rest ≡ None)) ⊎ opener.may_refuse g path fault rest
+-- what could have opened a database was not used, so nothing was opened
+abbrev pub IsUnused : {F O : Type 0} {g : disk.Ghosts F} → O → Left F O g → Type 0
+IsUnused opener rest = rest ≡ left.Unused opener
 
--- the same, and this is all that is left
-abbrev pub LeavesRefused : {O F : Type 0} {g : disk.Ghosts F} → Opens O F → List ℕ → Bool → Left F g → Type 0
-LeavesRefused {F = F} {g = g} opener path existing left = (fault : OpenFault) × (rest : Option (Leftover F g)) × IsRefusedAt opener path existing fault rest × IsRest rest left
+-- at a path where a database had to be there was none, or the look at it failed, and this is told: then the opener was not used
+abbrev pub FindsNone : {O F : Type 0} {g : disk.Ghosts F} → Opens O F → O → List ℕ → OpenFault → Left F O g → Type 0
+FindsNone opens opener path fault rest = ((opens.may_find path false × (fault ≡ Empty)) ⊎ opens.may_fail path fault) × IsUnused opener rest
+
+-- no database was opened at a path, for this fault: it had to be there and was not found; or it was refused, and this is left
+abbrev pub LeavesRefused : {O F : Type 0} {g : disk.Ghosts F} → Opens O F → O → List ℕ → Bool → OpenFault → Left F O g → Type 0
+LeavesRefused {g = g} opens opener path existing fault rest = (IsTrue existing × FindsNone opens opener path fault rest) ⊎ opens.may_refuse g path fault rest
 
 -- a database that was there was opened at a path, audited and found sound; its connection is left, and `sound` was printed
-abbrev pub FindsSound : {O F W : Type 0} {g : disk.Ghosts F} → Opens O F → List ℕ → Office → (W → Option (List ℕ)) → Counted W → Counted W → Left F g → Type 0
-FindsSound {F = F} {g = g} opener path office contents out new_out rest =
-    (conn : Held (FileStore F g)) × IsOpenedAt opener path true (file_state conn)
+abbrev pub FindsSound : {O F W : Type 0} {g : disk.Ghosts F} → Opens O F → List ℕ → Office → (W → Option (List ℕ)) → Counted W → Counted W → Left F O g → Type 0
+FindsSound {F = F} {g = g} opens path office contents out new_out rest =
+    (conn : Held (FileStore F g)) × IsOpenedAt opens path true conn
     × ((ended : Held (FileStore F g)) × IsSoundDatabase office (file_state conn) (file_state ended) × (rest ≡ left.Connection ended))
     × Prints contents out new_out (codes "sound\n")
 
 -- no database was opened at a path to be audited, or one was and is not sound; it is left as it was, and nothing was printed
-abbrev pub FindsUnsound : {O F W : Type 0} {g : disk.Ghosts F} → Opens O F → List ℕ → Office → Counted W → Counted W → Left F g → Type 0
-FindsUnsound {F = F} {g = g} opener path office out new_out rest =
-    (LeavesRefused opener path true rest
-    ⊎ ((conn : Held (FileStore F g)) × IsOpenedAt opener path true (file_state conn)
-    × ((ended : Held (FileStore F g)) × IsNotSound office (file_state conn) (file_state ended) × (rest ≡ left.Connection ended))))
+abbrev pub FindsUnsound : {O F W : Type 0} {g : disk.Ghosts F} → Opens O F → O → List ℕ → Office → Counted W → Counted W → (Trouble → Type 0) → Left F O g → Type 0
+FindsUnsound {F = F} {g = g} opens opener path office out new_out Told rest =
+    (((fault : OpenFault) × LeavesRefused opens opener path true fault rest × Told (Database fault))
+    ⊎ ((conn : Held (FileStore F g)) × IsOpenedAt opens path true conn
+    × ((ended : Held (FileStore F g)) × TellsUnsound office (file_state conn) (file_state ended) Told × (rest ≡ left.Connection ended))))
     × (new_out ≡ out)
 
 -- so many connections were served over a store that was opened over what a connection was found with, and this is the store behind them
@@ -215,9 +224,9 @@ ServesDatabase {S = S} net state office existing found ended contents out new_ou
     (begun : S) × IsOver office existing found (state begun) × ServesStore net state begun ended contents out new_out place.port place.connections false
 
 -- serving so ended early, and this is the store then
-abbrev pub StopsServingDatabase : {N S W : Type 0} → Listens N → (S → State) → Office → Bool → connection.State → S → (W → Option (List ℕ)) → Counted W → Counted W → Listening → Type 0
-StopsServingDatabase {S = S} net state office existing found ended contents out new_out place =
-    (begun : S) × IsOver office existing found (state begun) × StopsServingStore net state begun ended contents out new_out place
+abbrev pub StopsServingDatabase : {N S W : Type 0} → Listens N → (S → State) → Office → Bool → connection.State → S → (W → Option (List ℕ)) → Counted W → Counted W → Listening → (Trouble → Type 0) → Type 0
+StopsServingDatabase {S = S} net state office existing found ended contents out new_out place Told =
+    (begun : S) × IsOver office existing found (state begun) × StopsServingStore net state begun ended contents out new_out place Told
 
 -- so many connections were served over a database, and its store is left as they left it
 abbrev pub LeavesServed : {C N S W : Type 0} → Listens N → (S → State) → Office → Bool → connection.State → Result S C → (W → Option (List ℕ)) → Counted W → Counted W → Listening → Type 0
@@ -226,23 +235,29 @@ LeavesServed net state office existing found (Err left) contents out new_out pla
 
 -- serving ended early, and its store is left as the connections left it; or the database was not opened, its connection is left as
 -- opening left it, and nothing was printed
-abbrev pub LeavesBroken : {C N S W : Type 0} → (C → connection.State) → Listens N → (S → State) → Office → Bool → connection.State → Result S C → (W → Option (List ℕ)) → Counted W → Counted W → Listening → Type 0
-LeavesBroken show net state office existing found (Ok ended) contents out new_out place =
-    StopsServingDatabase net state office existing found ended contents out new_out place
-LeavesBroken show net state office existing found (Err left) contents out new_out place =
-    IsNotOpened office existing found (show left) × (new_out ≡ out)
+abbrev pub LeavesBroken : {C N S W : Type 0} → (C → connection.State) → Listens N → (S → State) → Office → Bool → connection.State → Result S C → (W → Option (List ℕ)) → Counted W → Counted W → Listening → (Trouble → Type 0) → Type 0
+LeavesBroken show net state office existing found (Ok ended) contents out new_out place Told =
+    StopsServingDatabase net state office existing found ended contents out new_out place Told
+LeavesBroken show net state office existing found (Err left) contents out new_out place Told =
+    (fault : OpenFault) × IsNotOpened office existing fault found (show left) × (new_out ≡ out) × Told (Database fault)
 
 -- the database of a path was opened, as many connections as were asked for were served over it, and its store was closed as they left it
-abbrev pub ServesOpened : {F N O S W : Type 0} {g : disk.Ghosts F} → (S → State) → (S → Held (FileStore F g)) → Listens N → Opens O F → Serving → (W → Option (List ℕ)) → Counted W → Counted W → Left F g → Type 0
-ServesOpened {F = F} {S = S} {g = g} state conn_of net opener s contents out new_out left =
-    (conn : Held (FileStore F g)) × IsOpenedAt opener s.path s.existing (file_state conn)
+abbrev pub ServesOpened : {F N O S W : Type 0} {g : disk.Ghosts F} → (S → State) → (S → Held (FileStore F g)) → Listens N → Opens O F → Serving → (W → Option (List ℕ)) → Counted W → Counted W → Left F O g → Type 0
+ServesOpened {F = F} {S = S} {g = g} state conn_of net opens s contents out new_out rest =
+    (conn : Held (FileStore F g)) × IsOpenedAt opens s.path s.existing conn
     × ((ended : Result S (Held (FileStore F g))) × LeavesServed net state s.office s.existing (file_state conn) ended contents out new_out s.place
-    × HandsBack state conn_of ended left)
+    × HandsBack state conn_of ended rest)
 
 -- serving so ended early: no database could be opened, and nothing was printed; or this was left of it, and closed where it is a store
-abbrev pub StopsServingOpened : {F N O S W : Type 0} {g : disk.Ghosts F} → (S → State) → (S → Held (FileStore F g)) → Listens N → Opens O F → Serving → (W → Option (List ℕ)) → Counted W → Counted W → Left F g → Type 0
-StopsServingOpened {F = F} {S = S} {g = g} state conn_of net opener s contents out new_out left =
-    (LeavesRefused opener s.path s.existing left × (new_out ≡ out))
-    ⊎ ((conn : Held (FileStore F g)) × IsOpenedAt opener s.path s.existing (file_state conn)
-    × ((ended : Result S (Held (FileStore F g))) × LeavesBroken file_state net state s.office s.existing (file_state conn) ended contents out new_out s.place
-    × HandsBack state conn_of ended left))
+abbrev pub StopsServingOpened : {F N O S W : Type 0} {g : disk.Ghosts F} → (S → State) → (S → Held (FileStore F g)) → Listens N → Opens O F → O → Serving → (W → Option (List ℕ)) → Counted W → Counted W → (Trouble → Type 0) → Left F O g → Type 0
+StopsServingOpened {F = F} {S = S} {g = g} state conn_of net opens opener s contents out new_out Told rest =
+    ((fault : OpenFault) × LeavesRefused opens opener s.path s.existing fault rest × (new_out ≡ out) × Told (Database fault))
+    ⊎ ((conn : Held (FileStore F g)) × IsOpenedAt opens s.path s.existing conn
+    × ((ended : Result S (Held (FileStore F g))) × LeavesBroken file_state net state s.office s.existing (file_state conn) ended contents out new_out s.place Told
+    × HandsBack state conn_of ended rest))
+
+-- but to serve a database or to audit one, words ask to open nothing: the opener is left as it was given
+abbrev pub UsesNothing : {F O : Type 0} {g : disk.Ghosts F} → Asked → O → Left F O g → Type 0
+UsesNothing (AsksServe path existing place society territory name) opener rest = ⊤
+UsesNothing (AsksAudit path society territory name) opener rest = ⊤
+UsesNothing asked opener rest = IsUnused opener rest

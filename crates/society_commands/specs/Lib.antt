@@ -4,3 +4,4 @@ pub mod Doors
 pub mod Found
 pub mod Replays
 pub mod Refusals
+pub mod Troubles

@@ -1,12 +1,11 @@
 -- What is said where the program does not begin, or a database is not opened.
-use Rattle.std.specs.Prelude.{◌≡◌, ◌⊎◌, ℕ, Bool, false, List, [], ◌∷◌, ◌++◌, Option, Some, None, Result, Ok, Err, bytes_eq, codes, if◌then◌else◌}
+use Rattle.std.specs.Prelude.{◌≡◌, ◌⊎◌, ℕ, Bool, false, List, [], ◌∷◌, ◌++◌, Result, Ok, Err, bytes_eq, codes, if◌then◌else◌}
 use Rattle.std.specs.declared.io.ErrorKind.{ErrorKind}
 use Rattle.std.specs.declared.io.ErrorKind.TheVariants.{InvalidData, NotFound}
 use Rattle.sqlite.specs.Files.{HoldsDatabase, IsCleanLeft, IsNothing, LeavesFiles, faults_left, faults_of, image_of}
 use Rattle.sqlite.specs.declared.error.Error.{Error}
 use Rattle.sqlite.specs.declared.error.Error.TheVariants.{SqliteFailure}
 use Rattle.sqlite.specs.declared.error.ErrorCode.TheVariants.{DatabaseCorrupt, NotADatabase, OutOfMemory}
-use Rattle.sqlite.specs.declared.file.Leftover.{Leftover}
 use Rattle.sqlite_disk.specs.Disk.{MoreFaults}
 use Rattle.sqlite_disk.specs.declared.Disk.{Ghosts}
 use Rattle.sqlite_disk.specs.declared.Files.{Files}
@@ -14,6 +13,8 @@ use Rattle.sqlite_trees.specs.Tree.{Trees}
 use Rattle.sqlite_wal.specs.Recovery.{Image}
 use Rattle.society_opening.specs.declared.open_fault.OpenFault.{OpenFault}
 use Rattle.society_opening.specs.declared.open_fault.OpenFault.TheVariants as fault
+use Rattle.society_commands.specs.declared.left.Left.{Left}
+use Rattle.society_commands.specs.declared.left.Left.TheVariants.{Refused, Unopened}
 use Rattle.society_commands.specs.declared.starting.NoWords.{NoWords}
 use Rattle.society_commands.specs.declared.starting.NoWords.TheVariants as without
 
@@ -57,13 +58,18 @@ presence_by _ = Err fault.Store
 abbrev pub HoldsNone : Image → Type 0
 HoldsNone image = ¬ (((db : Trees) × HoldsDatabase image db) ⊎ IsNothing image)
 
+-- what is told of a path where no database was opened as an office's: memory was refused, the store failed, or damage (profile)
+abbrev pub IsToldOfNone : OpenFault → Type 0
+IsToldOfNone told = (told ≡ fault.Memory) ⊎ ((told ≡ fault.Store) ⊎ (told ≡ fault.Damaged))
+
 -- Files that were as they are known to be when they are opened were refused, and this is left of them: damage is told only where they hold
--- no database or the disk failed, and they are left so that they recover as before.
-abbrev pub RefusesFiles : {D : Type 0} {g : Ghosts D} → (Files D → Type 0) → OpenFault → Option (Leftover D g) → Type 0
-RefusesFiles IsAsOpened told None = (told ≡ fault.Memory) ⊎ (told ≡ fault.Store)
-RefusesFiles {D = D} {g = g} IsAsOpened told (Some left) =
-    (files : Files D) × IsAsOpened files
-    × (IsCleanLeft left → (told ≡ fault.Damaged → HoldsNone (image_of g files) ⊎ MoreFaults (faults_of g files) (faults_left left)) × LeavesFiles files left)
+-- no database or the disk failed, and they are left so that they recover as before. Or no file could be opened.
+abbrev pub RefusesFiles : {D O : Type 0} {g : Ghosts D} → (Files D → Type 0) → OpenFault → Left D O g → Type 0
+RefusesFiles IsAsOpened told (Unopened opener) = IsToldOfNone told
+RefusesFiles {D = D} {g = g} IsAsOpened told (Refused left) =
+    IsToldOfNone told × ((files : Files D) × IsAsOpened files
+    × (IsCleanLeft left → (told ≡ fault.Damaged → HoldsNone (image_of g files) ⊎ MoreFaults (faults_of g files) (faults_left left)) × LeavesFiles files left))
+RefusesFiles IsAsOpened told _ = ⊥
 
 -- what a fault of a database is called on standard error (profile)
 abbrev pub database_fault : OpenFault → List ℕ

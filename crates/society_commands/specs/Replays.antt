@@ -1,5 +1,5 @@
 -- What is written where a stream of bytes is served at an office to which nothing has come, and why a stream breaks off.
-use Rattle.std.specs.Prelude.{◌≡◌, ℕ, IfSome, List, ◌++◌, codes, length, Option}
+use Rattle.std.specs.Prelude.{◌≡◌, ℕ, IfSome, List, ◌++◌, codes, decimal, length, Option}
 use Rattle.std.specs.Io.KnownBytes.{Appends}
 use Rattle.http_desk.specs.Counted.{inner_of}
 use Rattle.http_text.specs.Part.{Part}
@@ -57,3 +57,7 @@ fault_name Read = codes "read"
 fault_name Write = codes "write"
 fault_name Turns = codes "turns"
 fault_name Memory = codes "memory"
+
+-- the fault of a stream, and after how many requests it came (profile)
+abbrev pub fault_text : DeskFault → List ℕ
+fault_text fault = fault_name fault.kind ++ codes " fault after " ++ decimal fault.requests

@@ -1,5 +1,5 @@
 //! Connections are served one after another, and a line is printed for each.
-ghost use Rattle.std.specs.Prelude.{decimal, false, IfErr, IfOk, OnOk, OnErr};
+ghost use Rattle.std.specs.Prelude.{false, IfErr, IfOk, OnOk, OnErr};
 ghost use Rattle.http_desk.specs.Serves.{IsGivenUp, IsServed, KeepsTurns, NeitherFails};
 ghost use Rattle.society_commands.specs.Connections.{ServesOne, Prints, ServesConnections, StopsEarly, connection_line, outcome_text};
 ghost use Rattle.society_commands.specs.Doors.{HasAdmitted, listener_of};
@@ -7,17 +7,16 @@ ghost use Rattle.society_commands.specs.Replays.{most_turns};
 
 use crate::door::{AcceptFault, Door};
 use crate::parting::part;
-use crate::replaying::{TURNS, fault_name};
+use crate::patience::{LONGEST_WAIT, Patient, bound_waits};
+use crate::printing::{print, print_number};
+use crate::replaying::TURNS;
+use crate::trouble::print_fault;
 use http_desk::{Counted, DeskFault, FaultKind, Served, serve};
-use itoa::Buffer;
 use society_core::{Desk, Store};
 use std::alloc::Global;
 use std::io::{Read, Write};
 use std::net::{TcpListener, TcpStream};
 use std::time::{Clock, Duration};
-
-/// Longest wait of one read or write, in seconds.
-const LONGEST_WAIT: u64 = 30;
 
 /// Serves so many connections at the desk, one after another as they come in at a listener, and prints for each a line that says how many
 /// requests it brought and how it ended. A connection that breaks off does not end it; it ends early at the first that cannot be accepted.
@@ -58,7 +57,7 @@ fn serve_at<C: Clock, S: Store, W: Write>(
         (StopsEarly S.state desk.old desk.new W.contents out.old out.new (listener_of door.old) door.new connections) }
 {
     for number in 0..connections {
-        let Ok(stream) = door.admit() else {
+        let Ok(stream) = door.admit(clock) else {
             return Err(AcceptFault);
         };
         let outcome = serve_stream(clock, alloc, desk, stream);
@@ -76,22 +75,23 @@ fn serve_stream<C: Clock, S: Store>(
 ) -> Result<Served, DeskFault>
     ensures { ServesOne S.state desk.old desk.new result }
 {
-    bound_waits(&stream);
-    let outcome = serve_both_ways(alloc, desk, &stream);
+    bound_waits(&stream, Duration::from_secs(LONGEST_WAIT));
+    let outcome = serve_both_ways(clock, alloc, desk, &stream);
     part(clock, stream);
     outcome
 }
 
 // Serves what a stream gives, and answers on it.
-fn serve_both_ways<S: Store>(
+fn serve_both_ways<C: Clock, S: Store>(
+    clock: &C,
     alloc: Global,
     desk: &mut Desk<S>,
     stream: &TcpStream,
 ) -> Result<Served, DeskFault>
     ensures { ServesOne S.state desk.old desk.new result }
 {
-    let mut reader = Counted::new(stream);
-    let mut writer = Counted::new(stream);
+    let mut reader = Counted::new(Patient::new(clock, stream));
+    let mut writer = Counted::new(Patient::new(clock, stream));
     serve_between(alloc, desk, &mut reader, &mut writer)
 }
 
@@ -114,39 +114,13 @@ fn serve_between<S: Store, R: Read, W: Write>(
     serve(alloc, desk, reader, writer, TURNS)
 }
 
-// Bounds the wait of each read and write. Where the system refuses that, the connection is served all the same: no byte of it failed.
-fn bound_waits(stream: &TcpStream) {
-    let wait = Some(Duration::from_secs(LONGEST_WAIT));
-    let _ = stream.set_read_timeout(wait);
-    let _ = stream.set_write_timeout(wait);
-}
-
-/// Prints bytes; those that are not taken are passed over.
-pub fn print<W: Write>(out: &mut Counted<W>, bytes: &[u8])
-    ensures { Prints W.contents out.old out.new bytes.now }
-{
-    let _ = out.write_all(bytes);
-}
-
-// Prints a number in decimal digits.
-fn print_number<W: Write>(out: &mut Counted<W>, number: u128)
-    ensures { Prints W.contents out.old out.new (decimal number) }
-{
-    let mut digits = Buffer::new();
-    print(out, digits.format(number).as_bytes());
-}
-
 // Prints how a connection ended.
 fn print_outcome<W: Write>(out: &mut Counted<W>, outcome: &Result<Served, DeskFault>)
     ensures { Prints W.contents out.old out.new (outcome_text outcome.now) }
 {
     match outcome {
         Ok(served) => print_number(out, served.requests),
-        Err(fault) => {
-            print(out, fault_name(fault.kind).as_bytes());
-            print(out, b" fault after ");
-            print_number(out, fault.requests);
-        }
+        Err(fault) => print_fault(out, fault),
     }
 }
 

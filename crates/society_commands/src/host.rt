@@ -1,27 +1,39 @@
 //! What the program asks of the machine: an address to listen at, the clocks, and a file that holds a database.
-ghost use Rattle.std.specs.Prelude.{◌≡◌, ◌⊎◌, Bool, IfErr, IfOk, List, Option, None, OnErr, ℕ, false, true};
+ghost use Rattle.std.specs.Prelude.{◌≡◌, ◌⊎◌, Bool, IfErr, IfOk, List, OnErr, ℕ, false, true};
 ghost use Rattle.std.specs.declared.net.socket_addr.SocketAddrV4.{SocketAddrV4 as Address};
 ghost use Rattle.std.specs.declared.net.tcp.TcpListener.{TcpListener as Listener};
 ghost use Rattle.sqlite.specs.Files.{file_state};
+ghost use Rattle.sqlite.specs.Held.{IsNew};
 ghost use Rattle.sqlite.specs.State as connection;
-ghost use Rattle.sqlite.specs.declared.file.Leftover.{Leftover as Rest};
-ghost use Rattle.sqlite_disk.specs.declared.Disk.{Ghosts};
 ghost use Rattle.sqlite_std_file.specs.File.{IsFresh};
 ghost use Rattle.sqlite_wal.specs.Files.{image_at};
+ghost use Rattle.sqlite_disk.specs.declared.Disk.{Ghosts};
+ghost use Rattle.society_commands.specs.declared.left.Left.{Left as Rest};
 ghost use Rattle.society_commands.specs.Found.{IsFoundIn};
-ghost use Rattle.society_commands.specs.Refusals.{FaultsAs, fault_by_start, RefusesFiles, presence_by};
+ghost use Rattle.society_commands.specs.Refusals.{FaultsAs, IsToldOfNone, RefusesFiles, fault_by_start, presence_by};
 ghost use Rattle.society_opening.specs.declared.open_fault.OpenFault.{OpenFault as Fault};
 
+use crate::left::Left;
 use society_opening::OpenFault;
-use sqlite::{Connection, Error, ErrorCode, FileFrom, FileStore, Leftover, Start};
+use sqlite::{Connection, Error, ErrorCode, FileFrom, FileStore, Start};
 use sqlite_disk::Disk;
-use std::fs::{self, File};
-use std::io::{self, ErrorKind, Read};
+use std::fs::{self, File, Permissions};
+use std::io::{self, ErrorKind, Read, Write};
 use std::net::{SocketAddrV4, TcpListener};
+use std::os::unix::fs::PermissionsExt;
 use std::time::{Clock, Duration};
 
 /// What every database file begins with (SQLite's file format, 1.3.1).
 const HEADER: &[u8] = b"SQLite format 3\0";
+
+/// Bytes of a log that holds no page: it is cut to so many when it was copied.
+const EMPTY_LOG: u64 = 41;
+
+/// Who may read and write a new file: its owner alone.
+const OWN: u32 = 0o600;
+
+/// That group or others may write a file.
+const OTHERS_WRITE: u32 = 0o022;
 
 /// What listens at addresses.
 pub trait Listen {
@@ -48,23 +60,28 @@ pub trait OpenDatabase {
     /// What a connection may show that was opened at a path.
     ghost may_open: { List ℕ → connection.State → Type 0 };
 
-    /// Why what is at a path may be refused, and what may be left of its files.
-    ghost may_refuse: { (g : Ghosts Self.File) → List ℕ → Fault → Option (Rest Self.File g) → Type 0 };
+    /// Why a look at a path may fail.
+    ghost may_fail: { List ℕ → Fault → Type 0 };
 
-    /// Whether there is a database at a path: a file with a byte in it, or with its log beside it. `Memory` where memory was refused,
-    /// `Store` where the path cannot be looked at.
+    /// Why what is at a path may be refused, and what may be left then.
+    ghost may_refuse: { (g : Ghosts Self.File) → List ℕ → Fault → Rest Self.File Self g → Type 0 };
+
+    /// Whether there is a database at a path: a file with a byte in it. `Memory` where memory was refused, `Store` where the path cannot be
+    /// looked at, or what is there is no file, `Damaged` where a log with pages stands there alone, or beside a file of no byte.
     fn has_database(&self, path: &str) -> Result<bool, OpenFault>
         ensures found { IfOk result (λ found. may_find path.now found) }
-        ensures refused { IfErr result (λ fault. may_refuse Self.File.Disk path.now fault None) };
+        ensures failed { IfErr result (may_fail path.now) };
 
-    /// A connection to the database at a path; where there is none it is made. `Memory` where memory was refused, `Damaged` where it is
-    /// not as it was written, else `Store`; with what is left of the files, where they were opened.
+    /// A connection to the database at a path, new and with no limit; where there is none it is made. `Memory` where memory was refused,
+    /// `Damaged` where it is not as it was written, else `Store`; with what is left of the files, or the opener where it could open none.
     fn open_database(
         self,
         path: &str,
-    ) -> Result<Connection<FileStore<Self::File>>, (OpenFault, Option<Leftover<Self::File>>)>
+    ) -> Result<Connection<FileStore<Self::File>>, (OpenFault, Left<Self::File, Self>)>
+    where
+        Self: Sized,
         ensures opened { IfOk result (λ c. may_open path.now (file_state c)) }
-        ensures idle { IfOk result (λ c. c.in_transaction ≡ false) }
+        ensures new { IfOk result IsNew }
         ensures refused { IfErr result (λ e. may_refuse Self.File.Disk path.now e.0 e.1) };
 }
 
@@ -100,19 +117,26 @@ impl<'a> Clock for Host<'a> {
     fn since_1970(&self) -> io::Result<Duration> {
         self.runtime.since_1970()
     }
+
+    fn sleep(&self, duration: Duration) {
+        self.runtime.sleep(duration)
+    }
 }
 
 /// The files of this machine, where `S` stands for what the file that is opened holds. It opens one.
 #[derive(Drop)]
 pub struct HostFiles<'a, S: Start> {
     runtime: &'a HostRuntime,
-    found: S,
+    found: Option<S>,
 }
 
 impl<'a, S: Start> HostFiles<'a, S> {
     /// The files of this runtime's machine.
     pub fn new(runtime: &'a HostRuntime, found: S) -> HostFiles<'a, S> {
-        HostFiles { runtime, found }
+        HostFiles {
+            runtime,
+            found: Some(found),
+        }
     }
 }
 
@@ -125,24 +149,83 @@ impl<'a, S: Start> OpenDatabase for HostFiles<'a, S> {
     // Nor to bytes: `S` stands for those of the file that is opened.
     ghost may_open = { λ path s. IsFoundIn (image_at S.Start) s };
 
-    ghost may_refuse = { λ g path fault left. RefusesFiles (λ files. IsFresh true files.log × IsFresh false files.db) fault left };
+    ghost may_fail = { λ path fault. IsToldOfNone fault };
+
+    ghost may_refuse = { λ g path fault rest. RefusesFiles (λ files. IsFresh true files.log × IsFresh false files.db) fault rest };
 
     fn has_database(&self, path: &str) -> Result<bool, OpenFault> {
-        match fs::metadata(self.runtime, path) {
-            Ok(file) if file.len() > 0 => Ok(true),
-            Ok(_) => has_log(self.runtime, path),
-            Err(error) => presence_by(error.kind()),
-        }
+        look(self.runtime, path)
     }
 
     fn open_database(
         self,
         path: &str,
-    ) -> Result<Connection<FileStore<Self::File>>, (OpenFault, Option<Leftover<Self::File>>)> {
+    ) -> Result<Connection<FileStore<Self::File>>, (OpenFault, Left<Self::File, Self>)> {
         let runtime = self.runtime;
-        match Connection::open_from(runtime, path, false, self.found) {
-            Ok(connection) => Ok(connection),
-            Err((error, left)) => Err((fault_at(runtime, path, &error), left)),
+        let used = HostFiles {
+            runtime,
+            found: None,
+        };
+        let was_there = match look(runtime, path) {
+            Ok(was_there) => was_there,
+            Err(fault) => return Err((fault, Left::Unopened(used))),
+        };
+        let Some(found) = self.found else {
+            return Err((OpenFault::Store, Left::Unopened(used)));
+        };
+        match Connection::open_from(runtime, path, false, found) {
+            Ok(connection) => {
+                guard(runtime, path, was_there);
+                Ok(connection)
+            }
+            Err((error, Some(files))) => {
+                Err((fault_at(runtime, path, &error), Left::Refused(files)))
+            }
+            Err((error, None)) => Err((fault_at(runtime, path, &error), Left::Unopened(used))),
+        }
+    }
+}
+
+/// Whether there is a database at a path, as `has_database` says.
+fn look(runtime: &HostRuntime, path: &str) -> Result<bool, OpenFault>
+    ensures { IfErr result IsToldOfNone }
+{
+    match fs::metadata(runtime, path) {
+        Ok(file) if !file.is_file() => Err(OpenFault::Store),
+        Ok(file) if file.len() > 0 => Ok(true),
+        Ok(_) => without_log(runtime, path),
+        Err(error) => match presence_by(error.kind()) {
+            Ok(_) => without_log(runtime, path),
+            Err(fault) => Err(fault),
+        },
+    }
+}
+
+/// That there is no database, where no log with a page stands beside: such a log is what is left of one.
+fn without_log(runtime: &HostRuntime, path: &str) -> Result<bool, OpenFault>
+    ensures { IfErr result IsToldOfNone }
+{
+    let Ok(log) = format!(in runtime.alloc(); "{path}-wal") else {
+        return Err(OpenFault::Memory);
+    };
+    match fs::metadata(runtime, log.as_str()) {
+        Ok(file) if file.len() > EMPTY_LOG => Err(OpenFault::Damaged),
+        Ok(_) => Ok(false),
+        Err(error) => presence_by(error.kind()),
+    }
+}
+
+/// Leaves a new file, and its log, to its owner alone, and says on standard error where others may write one that was there.
+fn guard(runtime: &HostRuntime, path: &str, was_there: bool) {
+    if !was_there {
+        let _ = fs::set_permissions(runtime, path, Permissions::from_mode(OWN));
+        if let Ok(log) = format!(in runtime.alloc(); "{path}-wal") {
+            let _ = fs::set_permissions(runtime, log.as_str(), Permissions::from_mode(OWN));
+        }
+    }
+    if let Ok(file) = fs::metadata(runtime, path) {
+        if file.permissions().mode() & OTHERS_WRITE != 0 {
+            let _ = writeln!(runtime.stderr(), "society: others may write {path}");
         }
     }
 }
@@ -157,23 +240,11 @@ fn presence_by(kind: ErrorKind) -> Result<bool, OpenFault>
     }
 }
 
-/// Whether there is a log beside the database at a path. A file without a byte may have all that was written to it in its log.
-fn has_log(runtime: &HostRuntime, path: &str) -> Result<bool, OpenFault>
-    ensures { IfErr result (λ fault. (fault ≡ OpenFault.Memory) ⊎ (fault ≡ OpenFault.Store)) }
-{
-    let Ok(log) = format!(in runtime.alloc(); "{path}-wal") else {
-        return Err(OpenFault::Memory);
-    };
-    match fs::exists(runtime, log.as_str()) {
-        Ok(exists) => Ok(exists),
-        Err(_) => Err(OpenFault::Store),
-    }
-}
-
 /// What an error of opening the database at a path says. Where SQLite finds no database in the files, the file's first bytes tell whether
 /// it was one.
 fn fault_at(runtime: &HostRuntime, path: &str, error: &Error) -> OpenFault
-    ensures { FaultsAs error.now result }
+    ensures faults { FaultsAs error.now result }
+    ensures told { IsToldOfNone result }
 {
     match error {
         Error::SqliteFailure(ErrorCode::OutOfMemory) => OpenFault::Memory,

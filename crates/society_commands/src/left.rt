@@ -1,14 +1,15 @@
 //! What is left of a database.
-ghost use Rattle.society_commands.specs.Closing.{IsRest};
-
 use sqlite::{Connection, Error, FileStore, Files, Leftover};
 use sqlite_disk::Disk;
 
-/// What is left of a database once its use has ended. Only who began the use lets it go, so nothing more is done to it.
+/// What is left of a database, or of what could have opened one, once its use has ended. Only who began the use lets it go, so nothing more
+/// is done to it.
 #[derive(Drop)]
-pub enum Left<D: Disk> {
-    /// No file was opened.
-    Nothing,
+pub enum Left<D: Disk, O> {
+    /// What opens a database, as it was given: it was not used.
+    Unused(O),
+    /// What was to open a database, and could open no file.
+    Unopened(O),
     /// Files that were refused: no database was opened in them.
     Refused(Leftover<D>),
     /// A connection that was not opened as an office's, or was audited.
@@ -17,16 +18,4 @@ pub enum Left<D: Disk> {
     Closed(Files<D>),
     /// What is left of an office's tables that could not be closed, and why they could not.
     Unclosed(Error, FileStore<D>),
-}
-
-impl<D: Disk> Left<D> {
-    /// What is left where no database was opened.
-    pub(crate) fn of_rest(rest: Option<Leftover<D>>) -> Left<D>
-        ensures { IsRest rest result }
-    {
-        match rest {
-            Some(rest) => Left::Refused(rest),
-            None => Left::Nothing,
-        }
-    }
 }

@@ -2,21 +2,22 @@
 ghost use Rattle.std.specs.Prelude.{◌≡◌, ◌⊎◌, IfErr, IfOk, false};
 ghost use Rattle.sqlite.specs.Files.{file_state};
 ghost use Rattle.sqlite.specs.Held.{state};
-ghost use Rattle.society_commands.specs.Connections.{IsNotOpened, IsOpenedAt, IsOver, IsRefusedAt, LeavesBroken, LeavesServed, ServesOpened, StopsServingOpened, serving_as};
-ghost use Rattle.society_commands.specs.Refusals.{database_fault};
+ghost use Rattle.sqlite.specs.Held.{IsNew};
+ghost use Rattle.society_commands.specs.Connections.{IsNotOpened, IsOpenedAt, IsOver, LeavesBroken, LeavesRefused, LeavesServed, ServesOpened, StopsServingOpened, serving_as};
+ghost use Rattle.society_commands.specs.Troubles.{Tells};
 
 use crate::closing::close_left;
 use crate::host::{Listen, OpenDatabase};
 use crate::left::Left;
-use crate::replaying::BROKEN_OFF;
 use crate::serving::serve_store;
+use crate::trouble::{Trouble, tell};
 use http_desk::Counted;
 use share_rules::Office;
 use society_arguments::{Database, Listening};
 use society_core::{Desk, Store};
 use society_opening::{OpenFault, open, open_existing};
 use society_tables::Tables;
-use sqlite::{Alter, Connection, FileStore, Leftover};
+use sqlite::{Alter, Connection, FileStore};
 use std::alloc::Global;
 use std::io::Write;
 use std::time::Clock;
@@ -31,70 +32,72 @@ pub struct Job<'a> {
 /// Opens the database of a path as the office's, serves so many connections over it, and closes it, so that its file alone is the book. Answers
 /// the exit status: 0, or 1 with one line on `err` where the database is not opened, or the port cannot be listened on or a connection
 /// not accepted. That it can't be closed changes no status: its file and the log together are the book then, as while it was open. What is
-/// left of the database comes back.
-pub fn serve_file<N: Listen + Clock, O: OpenDatabase + Drop, W: Write, E: Write>(
+/// left of the database comes back, or the opener where it opened nothing.
+pub fn serve_file<N: Listen + Clock, O: OpenDatabase, W: Write, E: Write>(
     net: &N,
     opener: O,
     alloc: Global,
     job: Job<'_>,
     office: &Office,
     out: &mut Counted<W>,
-    err: &mut E,
-) -> (u8, Left<O::File>)
+    err: &mut Counted<E>,
+) -> (u8, Left<O::File, O>)
     ensures status { (result.0 ≡ 0) ⊎ (result.0 ≡ 1) }
     ensures served { result.0 ≡ 0 → ServesOpened ⟦<Tables<FileStore<O::File>> as Store>⟧.state (λ t. t.conn) N.Listen O.OpenDatabase
         (serving_as job.entry office.now) W.contents out.old out.new result.1 }
     // Nothing is printed where the database is not opened, or nothing can be listened on; else fewer connections came. In each case
     // the clause names what is left of the database.
-    ensures broken_off { result.0 ≡ 1 → StopsServingOpened ⟦<Tables<FileStore<O::File>> as Store>⟧.state (λ t. t.conn) N.Listen O.OpenDatabase
-        (serving_as job.entry office.now) W.contents out.old out.new result.1 }
+    ensures broken_off { result.0 ≡ 1 → StopsServingOpened ⟦<Tables<FileStore<O::File>> as Store>⟧.state (λ t. t.conn) N.Listen O.OpenDatabase opener
+        (serving_as job.entry office.now) W.contents out.old out.new (Tells E.contents err.old err.new) result.1 }
 {
     match open_there(opener, job.database) {
         Ok(connection) => {
             let (status, left) = serve_database(net, alloc, connection, job, office, out, err);
             (status, close_left(left, status, err))
         }
-        Err((fault, rest)) => (open_fault(fault, err), Left::of_rest(rest)),
+        Err((fault, left)) => (tell(err, Trouble::Database(fault)), left),
     }
 }
 
-/// A connection to the database of a path. Where it has to be there and is not, nothing is made, and this is `Empty`; else the faults are the
-/// opener's, with what is left of the files, where they were opened.
-pub(crate) fn open_there<O: OpenDatabase + Drop>(
+/// A connection to the database of a path. Where it has to be there and is not, nothing is opened, and this is `Empty`; else the faults are
+/// the opener's. What is left comes back: the opener, where it was not used, or what an opening that was refused leaves.
+pub(crate) fn open_there<O: OpenDatabase>(
     opener: O,
     database: Database<'_>,
-) -> Result<Connection<FileStore<O::File>>, (OpenFault, Option<Leftover<O::File>>)>
-    ensures opened { IfOk result (λ c. IsOpenedAt O.OpenDatabase database.entry.path.now database.entry.existing (file_state c)) }
-    ensures idle { IfOk result (λ c. c.in_transaction ≡ false) }
-    ensures refused { IfErr result (λ e. IsRefusedAt O.OpenDatabase database.entry.path.now database.entry.existing e.0 e.1) }
+) -> Result<Connection<FileStore<O::File>>, (OpenFault, Left<O::File, O>)>
+    ensures opened { IfOk result (IsOpenedAt O.OpenDatabase database.entry.path.now database.entry.existing) }
+    ensures refused { IfErr result (λ e. LeavesRefused O.OpenDatabase opener database.entry.path.now database.entry.existing e.0 e.1) }
 {
     if database.existing {
         match opener.has_database(database.path) {
             Ok(true) => {}
-            Ok(false) => return Err((OpenFault::Empty, None)),
-            Err(fault) => return Err((fault, None)),
+            Ok(false) => return Err((OpenFault::Empty, Left::Unused(opener))),
+            Err(fault) => return Err((fault, Left::Unused(opener))),
         }
     }
-    opener.open_database(database.path)
+    match opener.open_database(database.path) {
+        Ok(connection) => Ok(connection),
+        Err((fault, left)) => Err((fault, left)),
+    }
 }
 
 /// Opens a database as the office's, and serves so many connections over it. Answers the exit status as `serve_file`, and hands back
 /// the tables, as the last request left them, or the connection where the office was not opened.
-fn serve_database<N: Listen + Clock, M: Alter + Drop, W: Write, E: Write>(
+fn serve_database<N: Listen + Clock, M: Alter, W: Write, E: Write>(
     net: &N,
     alloc: Global,
     connection: Connection<M>,
     job: Job<'_>,
     office: &Office,
     out: &mut Counted<W>,
-    err: &mut E,
+    err: &mut Counted<E>,
 ) -> (u8, Result<Tables<M>, Connection<M>>)
     requires { connection.in_transaction ≡ false }
     ensures status { (result.0 ≡ 0) ⊎ (result.0 ≡ 1) }
     ensures served { result.0 ≡ 0 → LeavesServed N.Listen ⟦<Tables<M> as Store>⟧.state office.now job.entry.database.existing (state M.Store connection)
         result.1 W.contents out.old out.new job.entry.place }
     ensures broken_off { result.0 ≡ 1 → LeavesBroken (state M.Store) N.Listen ⟦<Tables<M> as Store>⟧.state office.now job.entry.database.existing
-        (state M.Store connection) result.1 W.contents out.old out.new job.entry.place }
+        (state M.Store connection) result.1 W.contents out.old out.new job.entry.place (Tells E.contents err.old err.new) }
 {
     match open_tables(alloc, connection, job.database.existing, office) {
         Ok(tables) => {
@@ -102,7 +105,7 @@ fn serve_database<N: Listen + Clock, M: Alter + Drop, W: Write, E: Write>(
             let status = serve_store(net, alloc, &mut desk, job.place, out, err);
             (status, Ok(desk.into_store()))
         }
-        Err((fault, connection)) => (open_fault(fault, err), Err(connection)),
+        Err((fault, connection)) => (tell(err, Trouble::Database(fault)), Err(connection)),
     }
 }
 
@@ -115,34 +118,11 @@ fn open_tables<M: Alter>(
 ) -> Result<Tables<M>, (OpenFault, Connection<M>)>
     requires { connection.in_transaction ≡ false }
     ensures over { IfOk result (λ t. IsOver office.now existing (state M.Store connection) (⟦<Tables<M> as Store>⟧.state t)) }
-    ensures err { IfErr result (λ e. IsNotOpened office.now existing (state M.Store connection) (state M.Store e.1)) }
+    ensures err { IfErr result (λ e. IsNotOpened office.now existing e.0 (state M.Store connection) (state M.Store e.1)) }
 {
     if existing {
         open_existing(alloc, connection, office)
     } else {
         open(alloc, connection, office)
     }
-}
-
-/// What a fault of a database is called.
-fn fault_name(fault: OpenFault) -> &'static str
-    ensures { result.now ≡ database_fault fault }
-{
-    match fault {
-        OpenFault::Memory => "memory",
-        OpenFault::Store => "store",
-        OpenFault::Empty => "empty",
-        OpenFault::Schema => "schema",
-        OpenFault::OtherOffice => "of another office",
-        OpenFault::Damaged => "damaged",
-    }
-}
-
-/// Writes why a database is not opened; a line that is not taken is passed over. Answers the status.
-pub fn open_fault<E: Write>(fault: OpenFault, err: &mut E) -> u8
-    ensures { result ≡ 1 }
-{
-    let why = fault_name(fault);
-    let _ = writeln!(err, "society: database {why}");
-    BROKEN_OFF
 }

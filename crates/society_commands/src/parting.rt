@@ -3,7 +3,7 @@ ghost use Rattle.std.specs.Prelude.{◌<◌, ◌≤◌, ◌*◌, ◌^◌, IfSome
 ghost use Rattle.std.specs.Duration.{as_nanos};
 ghost use Rattle.society_commands.specs.Doors.{DropsFront};
 
-use std::io::Read;
+use std::io::{ErrorKind, Read};
 use std::net::{Shutdown, TcpStream};
 use std::time::{Clock, Duration, Instant};
 
@@ -51,10 +51,15 @@ fn drop_some<R: Read>(rest: &mut R) -> Option<usize>
     ensures dropped { IfSome result (λ count. DropsFront (R.remaining rest.old) (R.remaining rest.new) count 8192) }
 {
     let mut buffer = [0; DROPPED_AT_ONCE];
-    match rest.read(&mut buffer) {
-        Ok(count) if count > 0 => Some(count),
-        _ => None,
+    for _ in 0..u64::MAX {
+        match rest.read(&mut buffer) {
+            Ok(count) if count > 0 => return Some(count),
+            // A signal ends no reading.
+            Err(error) if error.kind() == ErrorKind::Interrupted => {}
+            _ => return None,
+        }
     }
+    None
 }
 
 /// How long is left of two seconds from a time on; nothing where they are over, or the clock fails.

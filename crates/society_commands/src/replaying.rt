@@ -2,6 +2,7 @@ ghost use Rattle.std.specs.Prelude.{◌≡◌, ◌⊎◌};
 ghost use Rattle.http_desk.specs.Serves.{KeepsTurns, NeitherFails};
 ghost use Rattle.society_commands.specs.Replays.{Replays, BreaksOff, fault_name, most_turns};
 
+use crate::trouble::{Trouble, tell};
 use http_desk::{Counted, DeskFault, FaultKind, serve};
 use share_rules::Office;
 use society_core::Desk;
@@ -26,7 +27,7 @@ pub fn replay<R: Read, W: Write, E: Write>(
     office: &Office,
     reader: &mut Counted<R>,
     out: &mut Counted<W>,
-    err: &mut E,
+    err: &mut Counted<E>,
 ) -> u8
     ensures status { (result ≡ 0) ⊎ (result ≡ 1) }
     // What was written are the texts of the answers to the requests that were read, in order, and of the end.
@@ -43,12 +44,12 @@ pub fn replay<R: Read, W: Write, E: Write>(
             kind: FaultKind::Memory,
             requests: 0,
         };
-        return broken_off(err, &fault);
+        return tell(err, Trouble::Stream(fault));
     };
     let mut desk = Desk::new(tables);
     match serve(alloc, &mut desk, reader, out, TURNS) {
         Ok(_) => SERVED,
-        Err(fault) => broken_off(err, &fault),
+        Err(fault) => tell(err, Trouble::Stream(fault)),
     }
 }
 
@@ -62,19 +63,4 @@ pub fn fault_name(kind: FaultKind) -> &'static str
         FaultKind::Turns => "turns",
         FaultKind::Memory => "memory",
     }
-}
-
-/// Writes why a stream broke off; a line that is not taken is passed over.
-pub fn report<E: Write>(err: &mut E, fault: &DeskFault) {
-    let kind = fault_name(fault.kind);
-    let requests = fault.requests;
-    let _ = writeln!(err, "society: {kind} fault after {requests} requests");
-}
-
-/// Writes why a stream broke off, as `report` does. Answers the status.
-pub(crate) fn broken_off<E: Write>(err: &mut E, fault: &DeskFault) -> u8
-    ensures { result ≡ 1 }
-{
-    report(err, fault);
-    BROKEN_OFF
 }

@@ -1,11 +1,14 @@
 //! The office as a server on this machine.
 ghost use Rattle.std.specs.Prelude.{◌≡◌, ◌⊎◌, false};
 ghost use Rattle.society_commands.specs.Connections.{ServesStore, StopsServingStore};
+ghost use Rattle.society_commands.specs.Troubles.{Tells};
 
-use crate::connections::{print, serve_connections};
+use crate::connections::serve_connections;
 use crate::door::AcceptFault;
 use crate::host::Listen;
-use crate::replaying::{BROKEN_OFF, SERVED};
+use crate::printing::print;
+use crate::replaying::SERVED;
+use crate::trouble::{Trouble, tell};
 use http_desk::Counted;
 use society_arguments::Listening;
 use society_core::{Desk, Store};
@@ -22,32 +25,24 @@ pub fn serve_store<N: Listen + Clock, S: Store, W: Write, E: Write>(
     desk: &mut Desk<S>,
     place: Listening,
     out: &mut Counted<W>,
-    err: &mut E,
+    err: &mut Counted<E>,
 ) -> u8
     ensures status { (result ≡ 0) ⊎ (result ≡ 1) }
     // The store is led from where it stood to where the last request left it.
     ensures served { result ≡ 0
         → ServesStore N.Listen S.state desk.old desk.new W.contents out.old out.new place.port place.connections false }
-    // The store is the same and nothing is printed where it cannot listen; else fewer connections came.
+    // The store is the same and nothing is printed where it cannot listen; else fewer connections came. Its line says which.
     ensures broken_off { result ≡ 1
-        → StopsServingStore N.Listen S.state desk.old desk.new W.contents out.old out.new place }
+        → StopsServingStore N.Listen S.state desk.old desk.new W.contents out.old out.new place (Tells E.contents err.old err.new) }
 {
     let address = SocketAddrV4::new(Ipv4Addr::LOCALHOST, place.port);
     let Ok(listener) = net.listen(address) else {
-        return break_off(err, "cannot listen");
+        return tell(err, Trouble::NoListener);
     };
     print(out, b"listening\n");
     let (outcome, _door) = serve_connections(net, alloc, desk, listener, place.connections, out);
     match outcome {
         Ok(()) => SERVED,
-        Err(AcceptFault) => break_off(err, "cannot accept"),
+        Err(AcceptFault) => tell(err, Trouble::NoConnection),
     }
-}
-
-// Writes why it ends; a line that is not taken is passed over. Answers the status.
-fn break_off<E: Write>(err: &mut E, why: &str) -> u8
-    ensures { result ≡ 1 }
-{
-    let _ = writeln!(err, "society: {why}");
-    BROKEN_OFF
 }

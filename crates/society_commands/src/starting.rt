@@ -3,17 +3,20 @@ ghost use Rattle.std.specs.Prelude.{◌≡◌, ◌≢◌, ◌⊎◌, IfErr, IfOk
 ghost use Rattle.std.specs.IoError.{error_kind};
 ghost use Rattle.clap.specs.Words.{kind_of};
 ghost use Rattle.clap.specs.declared.error.kind.ErrorKind.TheVariants.{DisplayHelp, OutOfMemory};
-ghost use Rattle.society_commands.specs.Connections.{FindsSound, FindsUnsound, ServesOpened, StopsServingOpened};
-ghost use Rattle.society_commands.specs.Replays.{Replays, BreaksOff};
+ghost use Rattle.http_desk.specs.Serves.{KeepsTurns, NeitherFails};
+ghost use Rattle.society_commands.specs.Connections.{FindsSound, FindsUnsound, ServesOpened, StopsServingOpened, IsUnused, UsesNothing};
+ghost use Rattle.society_commands.specs.Replays.{Replays, BreaksOff, most_turns};
 ghost use Rattle.society_commands.specs.Refusals.{status_after, no_words_by, status_without};
-ghost use Rattle.society_arguments.specs.Words.{AsksHelp, EndsAudit, EndsReplay, EndsServing, IsWrong, asks};
+ghost use Rattle.society_commands.specs.Troubles.{Tells};
+ghost use Rattle.society_arguments.specs.Words.{AsksHelp, EndsAudit, EndsReplay, EndsServing, IsWrong, WantsReplay, asks};
 
 use crate::auditing::audit_file;
-use crate::connections::print;
 use crate::host::{Listen, OpenDatabase};
 use crate::left::Left;
 use crate::opening::{Job, serve_file};
-use crate::replaying::{SERVED, broken_off, replay};
+use crate::printing::print;
+use crate::replaying::{SERVED, replay};
+use crate::trouble::{Trouble, tell};
 use clap::Error;
 use clap::error::ErrorKind as ClapKind;
 use http_desk::{Counted, DeskFault, FaultKind};
@@ -42,39 +45,44 @@ pub enum NoWords {
 /// Does what the program's words ask for: replays the reader at the office that they name, or serves connections there over the
 /// database that they name, or audits that database, or tells of the words on `out`; where they are wrong, says so on `err` and reads
 /// and writes nothing else. Answers the exit status: that of `replay`, `serve_file` or `audit_file`, 0 for help, 2 for wrong words;
-/// else memory was refused for the words. What is left of the database comes back with it.
-pub fn start<N: Listen + Clock, O: OpenDatabase + Drop, R: Read, W: Write, E: Write>(
+/// else memory was refused for the words. What is left of the database comes back with it, and the opener where there is nothing to open.
+pub fn start<N: Listen + Clock, O: OpenDatabase, R: Read, W: Write, E: Write>(
     net: &N,
     opener: O,
     alloc: Global,
     words: &[String],
     reader: &mut Counted<R>,
     out: &mut Counted<W>,
-    err: &mut E,
-) -> (Result<u8, NoWords>, Left<O::File>)
-    ensures err { OnErr result.0 ((reader.new ≡ reader.old) × (out.new ≡ out.old)) }
+    err: &mut Counted<E>,
+) -> (Result<u8, NoWords>, Left<O::File, O>)
+    ensures err { OnErr result.0 ((reader.new ≡ reader.old) × (out.new ≡ out.old) × IsUnused opener result.1) }
     ensures memory { IfErr result.0 (λ why. why ≡ NoWords.Memory) }
     ensures wrong { IsWrong (asks words.now)
         → IfOk result.0 (λ status. (status ≡ 2) × (reader.new ≡ reader.old) × (out.new ≡ out.old)) }
     ensures help { asks words.now ≡ AsksHelp → IfOk result.0 (λ status. (status ≡ 0) × (reader.new ≡ reader.old)) }
     ensures status { IfOk result.0 (λ status. (status ≡ 0) ⊎ ((status ≡ 1) ⊎ ((status ≡ 2) × IsWrong (asks words.now)))) }
+    // But to serve and to audit nothing is opened.
+    ensures unused { UsesNothing (asks words.now) opener result.1 }
     ensures replayed { EndsReplay (asks words.now) 0 result.0 (λ office.
         Replays office R.remaining W.contents reader.old out.old out.new) }
     ensures broken_off { EndsReplay (asks words.now) 1 result.0 (λ office.
         BreaksOff office R.remaining W.contents reader.old reader.new out.old out.new) }
+    // No failure is passed over, and each read was needed.
+    ensures kept { EndsReplay (asks words.now) 0 result.0 (λ office. NeitherFails reader.old reader.new out.old out.new) }
+    ensures turns { WantsReplay (asks words.now) → IfOk result.0 (λ status. KeepsTurns R.remaining reader.old reader.new most_turns) }
     ensures served { EndsServing (asks words.now) 0 result.0 (λ s. ServesOpened
         ⟦<Tables<FileStore<O::File>> as Store>⟧.state (λ t. t.conn) N.Listen O.OpenDatabase s W.contents out.old out.new result.1) }
     ensures stopped { EndsServing (asks words.now) 1 result.0 (λ s. StopsServingOpened
-        ⟦<Tables<FileStore<O::File>> as Store>⟧.state (λ t. t.conn) N.Listen O.OpenDatabase s W.contents out.old out.new result.1) }
+        ⟦<Tables<FileStore<O::File>> as Store>⟧.state (λ t. t.conn) N.Listen O.OpenDatabase opener s W.contents out.old out.new (Tells E.contents err.old err.new) result.1) }
     ensures sound { EndsAudit (asks words.now) 0 result.0 (λ path office.
         FindsSound O.OpenDatabase path office W.contents out.old out.new result.1) }
     ensures unsound { EndsAudit (asks words.now) 1 result.0 (λ path office.
-        FindsUnsound O.OpenDatabase path office out.old out.new result.1) }
+        FindsUnsound O.OpenDatabase opener path office out.old out.new (Tells E.contents err.old err.new) result.1) }
 {
     match words_in(alloc, words) {
         Ok(Words::Replay(office)) => {
             let status = replay(alloc, &office, reader, out, err);
-            (Ok(status), Left::Nothing)
+            (Ok(status), Left::Unused(opener))
         }
         Ok(Words::Serve(database, place, office)) => {
             let job = Job { database, place };
@@ -85,9 +93,9 @@ pub fn start<N: Listen + Clock, O: OpenDatabase + Drop, R: Read, W: Write, E: Wr
             let (status, left) = audit_file(opener, alloc, path, &office, out, err);
             (Ok(status), left)
         }
-        Ok(Words::BadName) => (Ok(refuse(err, "bad name")), Left::Nothing),
-        Ok(Words::BadWords) => (Ok(refuse(err, "bad words")), Left::Nothing),
-        Err(error) => (explain(alloc, &error, out, err), Left::Nothing),
+        Ok(Words::BadName) => (Ok(refuse(err, "bad name")), Left::Unused(opener)),
+        Ok(Words::BadWords) => (Ok(refuse(err, "bad words")), Left::Unused(opener)),
+        Err(error) => (explain(alloc, &error, out, err), Left::Unused(opener)),
     }
 }
 
@@ -96,7 +104,7 @@ fn explain<W: Write, E: Write>(
     alloc: Global,
     error: &Error,
     out: &mut Counted<W>,
-    err: &mut E,
+    err: &mut Counted<E>,
 ) -> Result<u8, NoWords>
     ensures err { OnErr result (out.new ≡ out.old) }
     ensures no_words { IfErr result (λ why. (why ≡ NoWords.Memory) × ((kind_of error.now ≡ OutOfMemory) ⊎ (kind_of error.now ≡ DisplayHelp))) }
@@ -115,17 +123,21 @@ fn explain<W: Write, E: Write>(
         }
         ClapKind::OutOfMemory => Err(NoWords::Memory),
         _ => {
-            let _ = write!(err, "{error}");
+            if let Ok(text) = format!(in alloc; "{error}") {
+                print(err, text.as_bytes());
+            }
             Ok(WRONG_WORDS)
         }
     }
 }
 
 // Writes why the words are wrong; a line that is not taken is passed over. Answers the status.
-fn refuse<E: Write>(err: &mut E, why: &str) -> u8
+fn refuse<E: Write>(err: &mut Counted<E>, why: &str) -> u8
     ensures { result ≡ 2 }
 {
-    let _ = writeln!(err, "society: {why}");
+    print(err, b"society: ");
+    print(err, why.as_bytes());
+    print(err, b"\n");
     WRONG_WORDS
 }
 
@@ -141,7 +153,7 @@ pub fn why_no_words(error: &io::Error) -> NoWords
 
 /// Ends the program: the status is that of what it did; where its words could not be had one line is written on `err`, and the status
 /// is 2 where one is no text, 1 where memory was refused.
-pub fn exit_status<E: Write>(outcome: Result<u8, NoWords>, err: &mut E) -> u8
+pub fn exit_status<E: Write>(outcome: Result<u8, NoWords>, err: &mut Counted<E>) -> u8
     ensures { result ≡ status_after outcome }
 {
     match outcome {
@@ -151,7 +163,7 @@ pub fn exit_status<E: Write>(outcome: Result<u8, NoWords>, err: &mut E) -> u8
 }
 
 /// Ends before any request where the words could not be had: writes one line on `err`. Answers the status.
-fn without_words<E: Write>(why: NoWords, err: &mut E) -> u8
+fn without_words<E: Write>(why: NoWords, err: &mut Counted<E>) -> u8
     ensures { result ≡ status_without why }
 {
     match why {
@@ -161,7 +173,7 @@ fn without_words<E: Write>(why: NoWords, err: &mut E) -> u8
                 kind: FaultKind::Memory,
                 requests: 0,
             };
-            broken_off(err, &fault)
+            tell(err, Trouble::Stream(fault))
         }
     }
 }

@@ -19,6 +19,7 @@ use Rattle.share_rules.specs.declared.office.Office.{Office}
 use Rattle.society_arguments.specs.declared.words.Listening.{Listening}
 use Rattle.society_commands.specs.Doors.{CameIn}
 use Rattle.society_commands.specs.declared.host.Listen.{Ghosts as Listens}
+use Rattle.society_commands.specs.declared.trouble.Trouble.{Trouble}
 use Rattle.society_commands.specs.Connections.{ServesOne, Connection, IsCounted, IsOver, Prints, ServesConnections, ServesDatabase, ServesStore, StopsServingDatabase, StopsServingStore, connection_line, connection_lines, parts_brought, replies_given}
 
 -- ---- what is printed
@@ -139,10 +140,10 @@ module _ {N S W : Type 0} (net : Listens N) (opened begun ended last : S) (state
         (subst (λ (d : S). ServesStore net state d ended contents out new_out place.port place.connections false) same s),
   )
 
-  pub stops_database : StopsServingStore net state begun ended contents out new_out place → StopsServingDatabase net state office existing found last contents out new_out place
-  stops_database s = (
+  pub stops_database : (Told : Trouble → Type 0) → StopsServingStore net state begun ended contents out new_out place Told → StopsServingDatabase net state office existing found last contents out new_out place Told
+  stops_database Told s = (
     opened,
     over,
-    subst (λ (d : S). StopsServingStore net state opened d contents out new_out place) (sym stays)
-        (subst (λ (d : S). StopsServingStore net state d ended contents out new_out place) same s),
+    subst (λ (d : S). StopsServingStore net state opened d contents out new_out place Told) (sym stays)
+        (subst (λ (d : S). StopsServingStore net state d ended contents out new_out place Told) same s),
   )

@@ -113,9 +113,9 @@ module _ {T C : Type 0} (office : Office) (found : connection.State) (held : T �
       → IfErr r (λ e. WhenOpen found (left e.1) (e.0 ≡ Store → MayFail found (left e.1)))
       → IfErr r (λ e. connection.HasCleanDisk (left e.1) → ShowsAs found.committed (left e.1))
       → MatchResult r (λ t. SurvivesOpening office found (shown t)) (λ e. SurvivesOpening office found (left e.1))
-      → IfErr r (λ e. IsNotOpened office false found (left e.1))
+      → IfErr r (λ e. IsNotOpened office false e.0 found (left e.1))
   not_any (Ok t) told failed unchanged crash = tt
-  not_any (Err e) told failed unchanged crash = record { fault = e.0; told = told; empty = λ existing. absurd (false≢true existing); failed = failed; unchanged = unchanged; crash = crash }
+  not_any (Err e) told failed unchanged crash = record { told = told; empty = λ existing. absurd (false≢true existing); failed = failed; unchanged = unchanged; crash = crash }
 
   -- and where none may
   pub not_existing : (X : OpenFault × C → Type 0) (r : Result T (OpenFault × C)) → IfErr r (λ e. connection.HasCleanDisk (left e.1) → IsTrue found.is_open → TellsDatabase office found.committed e.0)
@@ -123,6 +123,6 @@ module _ {T C : Type 0} (office : Office) (found : connection.State) (held : T �
       → IfErr r (λ e. WhenOpen found (left e.1) (e.0 ≡ Store → MayFail found (left e.1)))
       → IfErr r (λ e. connection.HasCleanDisk (left e.1) → ShowsAs found.committed (left e.1))
       → MatchResult r (λ t. SurvivesTaking office found (shown t)) (λ e. SurvivesTaking office found (left e.1))
-      → IfErr r (λ e. IsNotOpened office true found (left e.1))
+      → IfErr r (λ e. IsNotOpened office true e.0 found (left e.1))
   not_existing X (Ok t) told empty failed unchanged crash = tt
-  not_existing X (Err e) told empty failed unchanged crash = record { fault = e.0; told = told; empty = λ existing opened none. (empty opened none).0; failed = failed; unchanged = unchanged; crash = crash }
+  not_existing X (Err e) told empty failed unchanged crash = record { told = told; empty = λ existing opened none. (empty opened none).0; failed = failed; unchanged = unchanged; crash = crash }

@@ -1,23 +1,14 @@
 -- Files in which no database was opened are refused for what the kit says of them.
-use Rattle.std.proofs.Common.{◌≡◌, ◌⊎◌, Option, Some, None, inl, inr, refl, subst}
-use Rattle.std.specs.Prelude.{IfSome}
+use Rattle.std.proofs.Common.{◌≡◌, ◌⊎◌, inl, inr, subst}
 use Rattle.sqlite.specs.Files.{FailsToOpenFiles, IsCleanLeft, LeavesFiles, faults_left, faults_of, image_of}
 use Rattle.sqlite.specs.declared.error.Error.{Error}
-use Rattle.sqlite.specs.declared.error.Error.TheVariants.{SqliteFailure}
-use Rattle.sqlite.specs.declared.error.ErrorCode.TheVariants.{CannotOpen, DatabaseBusy, OutOfMemory}
 use Rattle.sqlite.specs.declared.file.Leftover.{Leftover}
 use Rattle.sqlite_disk.specs.Disk.{MoreFaults}
 use Rattle.sqlite_disk.specs.declared.Disk.{Ghosts}
 use Rattle.sqlite_disk.specs.declared.Files.{Files}
-use Rattle.society_commands.specs.Refusals.{FaultsAs, HoldsNone, RefusesFiles}
+use Rattle.society_commands.specs.Refusals.{FaultsAs, HoldsNone, IsToldOfNone}
 use Rattle.society_opening.specs.declared.open_fault.OpenFault.{OpenFault}
 use Rattle.society_opening.specs.declared.open_fault.OpenFault.TheVariants as fault
-
--- where the files were not even opened, memory was refused, or the store failed
-unopened : (e : Error) (told : OpenFault) → FaultsAs e told → (e ≡ SqliteFailure CannotOpen) ⊎ ((e ≡ SqliteFailure OutOfMemory) ⊎ (e ≡ SqliteFailure DatabaseBusy)) → (told ≡ fault.Memory) ⊎ (told ≡ fault.Store)
-unopened e told as_told (inl cannot) = inr (subst (λ (x : Error). FaultsAs x told) cannot as_told)
-unopened e told as_told (inr (inl memory)) = inl (subst (λ (x : Error). FaultsAs x told) memory as_told)
-unopened e told as_told (inr (inr busy)) = inr (subst (λ (x : Error). FaultsAs x told) busy as_told)
 
 no_memory : (told : OpenFault) → told ≡ fault.Memory → told ≡ fault.Damaged → ⊥
 no_memory told memory damaged = cc
@@ -35,10 +26,9 @@ module _ {D : Type 0} {g : Ghosts D} where
   damage files left e told as_told (inr (inr (inr full))) damaged = absurd (no_store told (subst (λ (x : Error). FaultsAs x told) full.0 as_told) damaged)
 
   -- what the kit says of an opening that failed is what is said of a refusal
-  pub refuses : (Log Base : D → Type 0) (left : Option (Leftover D g)) (e : Error) (told : OpenFault) → FaultsAs e told
-      → (left ≡ None → (e ≡ SqliteFailure CannotOpen) ⊎ ((e ≡ SqliteFailure OutOfMemory) ⊎ (e ≡ SqliteFailure DatabaseBusy)))
-      → IfSome left (λ l. (files : Files D) × Log files.log × Base files.db × (IsCleanLeft l → FailsToOpenFiles files l e × LeavesFiles files l))
-      → RefusesFiles (λ files. Log files.log × Base files.db) told left
-  refuses Log Base None e told as_told none some = unopened e told as_told (none refl)
-  refuses Log Base (Some left) e told as_told none some =
-      (some.0, (some.1, some.2), λ clean. (damage some.0 left e told as_told (some.3 clean).0, (some.3 clean).1))
+  pub refuses : (Log Base : D → Type 0) (left : Leftover D g) (e : Error) (told : OpenFault) → IsToldOfNone told → FaultsAs e told
+      → (files : Files D) × Log files.log × Base files.db × (IsCleanLeft left → FailsToOpenFiles files left e × LeavesFiles files left)
+      → IsToldOfNone told × ((files : Files D) × (Log files.log × Base files.db)
+      × (IsCleanLeft left → (told ≡ fault.Damaged → HoldsNone (image_of g files) ⊎ MoreFaults (faults_of g files) (faults_left left)) × LeavesFiles files left))
+  refuses Log Base left e told is as_told some =
+      (is, (some.0, (some.1, some.2), λ clean. (damage some.0 left e told as_told (some.3 clean).0, (some.3 clean).1)))

@@ -12,4 +12,4 @@ returns-in-Ok-clause-err g c = λ one.
     (inr (c.in-Ok.connection, c.in-Ok.ensures.opened, (c.audit_database-status.result.1, f.0, refl)), f.1)
 
 pub returns-in-Err-clause-err : goal.returns-in-Err-clause-err
-returns-in-Err-clause-err g c = λ one. (inl (c.in-Err.fault, c.in-Err.rest, c.in-Err.ensures.refused, c.of_rest.ensures), refl)
+returns-in-Err-clause-err g c = λ one. (inl (c.in-Err.fault, c.in-Err.ensures.refused, c.tell.ensures.told), refl)

@@ -1,8 +1,8 @@
 use Rattle.society_commands.proofs.lemmas.ClosingLemmas.{copied_book}
 use Rattle.society_commands.proofs.closing.close_tables.Goals as goal
 
-pub returns-in-Ok : goal.returns-in-Ok
-returns-in-Ok g c = λ clean. copied_book c.args.tables.office c.args.tables.conn c.in-Ok.files c.args.tables.rests (rw c.into_connection.ensures.same at (c.in-Ok.ensures.copied clean))
+pub returns-in-Ok-clause-closed : goal.returns-in-Ok-clause-closed
+returns-in-Ok-clause-closed g c = λ clean. copied_book c.args.tables.office c.args.tables.conn c.in-Ok.files c.args.tables.rests (rw c.into_connection.ensures.same at (c.in-Ok.ensures.copied clean))
 
-pub returns-after-status-eq-SERVED : goal.returns-after-status-eq-SERVED
-returns-after-status-eq-SERVED g c = rw c.into_connection.ensures.same at c.in-Err.ensures.err
+pub returns-in-Err-clause-closed : goal.returns-in-Err-clause-closed
+returns-in-Err-clause-closed g c = rw c.into_connection.ensures.same at c.in-Err.ensures.err

@@ -32,7 +32,8 @@ returns-clause-broken_off g c = λ one.
         listens = c.in-Ok.ensures.listens;
         admitted = came.3;
       }),
+      c.tell-in-Err.ensures.told,
     )
 
 pub returns-in_default-clause-broken_off : goal.returns-in_default-clause-broken_off
-returns-in_default-clause-broken_off g c = λ one. inl ((c.new-address.result, (ap ipv4_octets c.new-address.ensures.ip, c.new-address.ensures.port), c.in_default.ensures.err), refl, refl)
+returns-in_default-clause-broken_off g c = λ one. inl ((c.new-address.result, (ap ipv4_octets c.new-address.ensures.ip, c.new-address.ensures.port), c.in_default.ensures.err), refl, refl, c.tell.ensures.told)

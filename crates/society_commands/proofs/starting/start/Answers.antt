@@ -1,6 +1,7 @@
-use Rattle.std.proofs.Common.{inr}
+use Rattle.std.proofs.Common.{inr, refl}
 use Rattle.society_arguments.proofs.lemmas.WordLemmas.{asks_for, asks_to_audit, asks_to_serve, audit_not_wrong, audit_read, name_is_wrong, read_no_help, refused_audit, refused_replay, refused_serving, replay_not_wrong, replay_read, serve_not_wrong, serving_read, words_are_wrong}
 use Rattle.society_arguments.specs.Words.{serving_of}
+use Rattle.society_commands.proofs.lemmas.UnusedLemmas.{audits, serves, unused}
 use Rattle.society_commands.proofs.starting.start.Goals as goal
 
 pub returns-in-Ok-Replay-clause-wrong : goal.returns-in-Ok-Replay-clause-wrong
@@ -142,3 +143,33 @@ returns-in-Err-clause-sound g c = λ wants. refused_audit _ _ _ c.explain.result
 
 pub returns-in-Err-clause-unsound : goal.returns-in-Err-clause-unsound
 returns-in-Err-clause-unsound g c = λ wants. refused_audit _ _ _ c.explain.result c.in-Err.ensures.err c.explain.ensures.memory wants
+
+pub returns-in-Ok-Replay-clause-kept : goal.returns-in-Ok-Replay-clause-kept
+returns-in-Ok-Replay-clause-kept g c = λ wants zero. (c.in-Ok-Replay.office, asks_for _ c.in-Ok-Replay.office (rw c.in-Ok-Replay.field-0-is at c.in-Ok-Replay.ensures.ok), c.replay-status.ensures.kept zero)
+
+pub returns-in-Ok-Serve-clause-unused : goal.returns-in-Ok-Serve-clause-unused
+returns-in-Ok-Serve-clause-unused g c = serves _ _ _ c.in-Ok-Serve.database c.in-Ok-Serve.place c.in-Ok-Serve.office (rw c.in-Ok-Serve.field-0-is at c.in-Ok-Serve.ensures.ok)
+
+pub returns-in-Ok-Audit-clause-unused : goal.returns-in-Ok-Audit-clause-unused
+returns-in-Ok-Audit-clause-unused g c = audits _ _ _ c.in-Ok-Audit.path c.in-Ok-Audit.office (rw c.in-Ok-Audit.field-0-is at c.in-Ok-Audit.ensures.ok)
+
+pub returns-in-Ok-BadName-clause-unused : goal.returns-in-Ok-BadName-clause-unused
+returns-in-Ok-BadName-clause-unused g c = unused _ _ _ refl
+
+pub returns-in-Err-clause-unused : goal.returns-in-Err-clause-unused
+returns-in-Err-clause-unused g c = unused _ _ _ refl
+
+pub returns-in-Ok-Serve-clause-kept : goal.returns-in-Ok-Serve-clause-kept
+returns-in-Ok-Serve-clause-kept g c = λ wants. absurd (replay_read _ _ (rw c.in-Ok-Serve.field-0-is at c.in-Ok-Serve.ensures.ok) wants)
+
+pub returns-in-Ok-Serve-clause-turns : goal.returns-in-Ok-Serve-clause-turns
+returns-in-Ok-Serve-clause-turns g c = λ wants. absurd (replay_read _ _ (rw c.in-Ok-Serve.field-0-is at c.in-Ok-Serve.ensures.ok) wants)
+
+pub returns-in-Ok-Audit-clause-kept : goal.returns-in-Ok-Audit-clause-kept
+returns-in-Ok-Audit-clause-kept g c = λ wants. absurd (replay_read _ _ (rw c.in-Ok-Audit.field-0-is at c.in-Ok-Audit.ensures.ok) wants)
+
+pub returns-in-Ok-Audit-clause-turns : goal.returns-in-Ok-Audit-clause-turns
+returns-in-Ok-Audit-clause-turns g c = λ wants. absurd (replay_read _ _ (rw c.in-Ok-Audit.field-0-is at c.in-Ok-Audit.ensures.ok) wants)
+
+pub returns-in-Ok-BadName-clause-turns : goal.returns-in-Ok-BadName-clause-turns
+returns-in-Ok-BadName-clause-turns g c = λ wants. absurd (replay_read _ _ (rw c.in-Ok-BadName.field-0-is at c.in-Ok-BadName.ensures.ok) wants)

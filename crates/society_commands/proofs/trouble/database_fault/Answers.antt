@@ -1,5 +1,5 @@
 use Rattle.std.proofs.Common.{rules}
-use Rattle.society_commands.proofs.opening.fault_name.Goals as goal
+use Rattle.society_commands.proofs.trouble.database_fault.Goals as goal
 
 pub returns-in-Schema : goal.returns-in-Schema
 returns-in-Schema c = search rules

@@ -1,0 +1,8 @@
+use Rattle.std.proofs.Common.{codes}
+use Rattle.society_commands.specs.Replays.{fault_text}
+use Rattle.society_commands.proofs.lemmas.ConnectionLemmas.{prints_on}
+use Rattle.society_commands.proofs.trouble.print_stream.Goals as goal
+
+pub returns : goal.returns
+returns g c =
+    prints_on g.E.Write.contents c.args.err.now c.print_fault.new.out c.print.new.out (fault_text c.args.fault) (codes " requests") c.print_fault.ensures c.print.ensures

@@ -1,0 +1,87 @@
+//! Why the program does not do what it was asked to: each has a line on standard error.
+ghost use Rattle.std.specs.Prelude.{◌≡◌, ◌++◌, codes};
+ghost use Rattle.society_commands.specs.Connections.{Prints};
+ghost use Rattle.society_commands.specs.Refusals.{database_fault};
+ghost use Rattle.society_commands.specs.Replays.{fault_text};
+ghost use Rattle.society_commands.specs.Troubles.{Tells, trouble_text};
+
+use crate::printing::{print, print_number};
+use crate::replaying::{BROKEN_OFF, fault_name};
+use http_desk::{Counted, DeskFault};
+use society_opening::OpenFault;
+use std::io::Write;
+
+/// Why the program ends with status 1.
+#[derive(Clone, Copy, Debug, PartialEq, Eq)]
+pub enum Trouble {
+    /// The database is not opened as the office's.
+    Database(OpenFault),
+    /// The port cannot be listened at.
+    NoListener,
+    /// A connection could not be accepted.
+    NoConnection,
+    /// A stream broke off.
+    Stream(DeskFault),
+}
+
+/// Writes the line of a trouble; what is not taken of it is passed over. Answers the status.
+pub fn tell<E: Write>(err: &mut Counted<E>, trouble: Trouble) -> u8
+    ensures status { result ≡ 1 }
+    ensures told { Tells E.contents err.old err.new trouble }
+{
+    print(err, b"society: ");
+    print_trouble(err, trouble);
+    print(err, b"\n");
+    BROKEN_OFF
+}
+
+// Writes what a trouble is called.
+fn print_trouble<E: Write>(err: &mut Counted<E>, trouble: Trouble)
+    ensures { Prints E.contents err.old err.new (trouble_text trouble) }
+{
+    match trouble {
+        Trouble::Database(fault) => print_database(err, fault),
+        Trouble::NoListener => print(err, b"cannot listen"),
+        Trouble::NoConnection => print(err, b"cannot accept"),
+        Trouble::Stream(fault) => print_stream(err, fault),
+    }
+}
+
+// Writes what a fault of a database is called.
+fn print_database<E: Write>(err: &mut Counted<E>, fault: OpenFault)
+    ensures { Prints E.contents err.old err.new (codes "database " ++ database_fault fault) }
+{
+    print(err, b"database ");
+    print(err, database_fault(fault).as_bytes());
+}
+
+// Writes what the fault of a stream is called, and after how many requests it came.
+fn print_stream<E: Write>(err: &mut Counted<E>, fault: DeskFault)
+    ensures { Prints E.contents err.old err.new (fault_text fault ++ codes " requests") }
+{
+    print_fault(err, &fault);
+    print(err, b" requests");
+}
+
+/// Prints what a fault is called, and after how many requests it came.
+pub(crate) fn print_fault<W: Write>(out: &mut Counted<W>, fault: &DeskFault)
+    ensures { Prints W.contents out.old out.new (fault_text fault.now) }
+{
+    print(out, fault_name(fault.kind).as_bytes());
+    print(out, b" fault after ");
+    print_number(out, fault.requests);
+}
+
+// What a fault of a database is called.
+fn database_fault(fault: OpenFault) -> &'static str
+    ensures { result.now ≡ database_fault fault }
+{
+    match fault {
+        OpenFault::Memory => "memory",
+        OpenFault::Store => "store",
+        OpenFault::Empty => "empty",
+        OpenFault::Schema => "schema",
+        OpenFault::OtherOffice => "of another office",
+        OpenFault::Damaged => "damaged",
+    }
+}
