@@ -2,11 +2,13 @@
 """Tries society-backup and society-restore on a running office: what they leave, and that the office is never left halted.
 
 A backup is made under load, over an office that is down, into a full disk (a small tmpfs; as root), killed in the middle, by signals
-too, beside a second one, with a copying that hangs, beside a strange process, with old copies. Then restores: over the running office,
-of a damaged file, with another front than the one that is given, and stopped in the middle. `systemctl` and, where a moment has to
-be met, `cp` and `df` are stand-ins that this script makes. Ends with status 1 where anything differs.
+too, beside a second one, with a copying that hangs, beside a strange process, with old copies, of files that were moved away under the
+office, and of a log in which a bit was changed. Then restores: over the running office, of a damaged file, with another front than the one
+that is given, two at once, beside a backup, on a new machine, stopped in the middle, and killed before each program that they run.
+`systemctl` and, where a moment has to be met, other programs are stand-ins that this script makes. Ends with status 1 where anything differs.
 """
 import contextlib
+import grp
 import os
 import pathlib
 import shutil
@@ -22,7 +24,7 @@ import time
 import common
 from common import NO_WORKS, OFFICE, ROOT, SENDER
 
-BACKUP, RESTORE = ROOT / "office/packaging/society-backup", ROOT / "office/packaging/society-restore"
+BACKUP, RESTORE = ROOT / "debian/bin/society-backup", ROOT / "debian/bin/society-restore"
 PATH = f"/v1/senders/{SENDER}/transmissions"
 # Most seconds until something that has to happen at once has happened.
 SOON = 3
@@ -32,10 +34,19 @@ WRONG, TRIALS = [], []
 SYSTEMCTL = """#!/bin/bash
 here=$(dirname "$0")
 echo "$*" >> "$here/asked"
-case $1 in
-  stop) kill "$(cat "$here/pid")"; while kill -0 "$(cat "$here/pid")" 2> /dev/null; do sleep 0.05; done ;;
-  start) setsid bash "$here/start" > /dev/null 2>&1 & echo $! > "$here/pid" ;;
+case $* in
+  stop*) kill "$(cat "$here/pid")"; while kill -0 "$(cat "$here/pid")" 2> /dev/null; do sleep 0.05; done ;;
+  start*) setsid bash "$here/start" > /dev/null 2>&1 & echo $! > "$here/pid" ;;
+  *is-enabled*) exit 1 ;;
 esac
+"""
+# Kills the script that runs it where the programs so far are as many as stand in a file, and is the program otherwise.
+KILLING = """#!/bin/bash
+here=$(dirname "$0")
+count=$(($(cat "$here/count") + 1))
+echo "$count" > "$here/count"
+if [ "$count" = "$(cat "$here/last")" ]; then echo "{0}" > "$here/killed"; kill -9 "$PPID"; exit 1; fi
+exec {1} "$@"
 """
 # A copying that waits until a file is gone.
 SLOW_CP = """#!/bin/bash
@@ -67,7 +78,7 @@ class Office:
         for it in self.home, self.tools:
             it.mkdir()
         (self.tools / "society").symlink_to(program)
-        self.database, self.process, self.sent = self.home / "office.db", None, 0
+        self.database, self.process, self.sent, self.unanswered = self.home / "office.db", None, 0, 0
         self.start()
 
     def command(self):
@@ -98,9 +109,14 @@ class Office:
         return common.json.loads(self.asked("GET", f"/v1/senders/{SENDER}", timeout=10)[1])["front"]
 
     def send(self, count=1):
+        """Sends the next files; what got no answer is sent again."""
         for _ in range(count):
-            status, text = self.asked("PUT", f"{PATH}/{self.sent + 1}", NO_WORKS)
-            assert status == 201, text
+            try:
+                status, text = self.asked("PUT", f"{PATH}/{self.sent + 1}", NO_WORKS)
+            except common.http.client.RemoteDisconnected:
+                self.unanswered += 1
+                status, text = self.asked("PUT", f"{PATH}/{self.sent + 1}", NO_WORKS)
+            assert status in (200, 201), text
             self.sent += 1
 
     def state(self):
@@ -214,7 +230,7 @@ def under_load(office):
     modes = {oct(stat.S_IMODE(it.stat().st_mode)) for it in office.copies.iterdir()}
     check("who may read them", (modes, oct(stat.S_IMODE(office.copies.stat().st_mode))), ({"0o600"}, "0o700"))
     check("nothing in the office's folder", sorted(it.name for it in office.home.iterdir()), ["office.db", "office.db-wal"])
-    print(f"  halted for {min(stops)} to {max(stops)} ms, {office.sent} files sent", flush=True)
+    print(f"  halted for {min(stops)} to {max(stops)} ms, {office.sent} files sent, {office.unanswered} twice", flush=True)
 
 
 @trial
@@ -286,7 +302,10 @@ def two_at_once(office):
 @trial
 def a_copying_that_hangs(office):
     office.send(2)
-    script = office.tools / "backup"
+    # (two folders below the one in which it finds its module)
+    (office.folder / "office").symlink_to(ROOT / "office")
+    script = office.folder / "debian/bin/backup"
+    script.parent.mkdir(parents=True)
     script.write_text(BACKUP.read_text().replace("LONGEST=60", "LONGEST=2"))
     script.chmod(0o755)
     (office.tools / "hold").touch()
@@ -310,6 +329,7 @@ def strangers_and_wrong_places(office):
     (office.folder / "file").touch()
     failed("no folder", office.backed_up("--to", office.folder / "file"), "could not be made")
     failed("a folder that can't be written", office.backed_up("--to", "/proc/self"), "can't be written")
+    failed("no group", office.backed_up("--group", "no-such-group"), "no group")
     failed("no program", office.backed_up("--program", "/none"), "not sound")
     office.stop()
     with open(office.database, "rb"):
@@ -321,7 +341,7 @@ def strangers_and_wrong_places(office):
 def old_ones(office):
     office.send(1)
     office.copies.mkdir()
-    for age in 1, 6, 7, 40:
+    for age in 1, 6, 7, 8, 40:
         path = office.copies / f"office-{age}.db"
         path.touch()
         os.utime(path, (time.time() - age * 86_400 - 600,) * 2)
@@ -330,6 +350,21 @@ def old_ones(office):
     check("a backup", office.backed_up("--days", "7")[0], 0)
     made = office.newest().name
     check("what is kept", sorted(it.name for it in office.copies.glob("*.db")), sorted([made, "office-1.db", "office-6.db", "mine.db"]))
+    for it in office.copies.glob("office-*.db"):
+        os.utime(it, (time.time() - 40 * 86_400 - (it.name == made),) * 2)
+    time.sleep(1.1)
+    check("a backup after a clock that was wrong", office.backed_up("--days", "7")[0], 0)
+    check("the newest three stay", len(list(office.copies.glob("office-*.db"))), 3)
+
+
+@trial
+def for_a_group(office):
+    """The folder and the copies of --group are for its members, and for nobody else."""
+    office.send(1)
+    group = grp.getgrgid(33 if os.geteuid() == 0 else os.getegid())
+    check("a backup", office.backed_up("--group", group.gr_name)[0], 0)
+    found = [(it.stat().st_gid, oct(stat.S_IMODE(it.stat().st_mode))) for it in (office.copies, office.newest())]
+    check("who may read it", found, [(group.gr_gid, "0o750"), (group.gr_gid, "0o640")])
 
 
 @trial
@@ -368,14 +403,115 @@ def restores(office):
         check("what was there", sorted(it.name for it in aside.iterdir()), ["office.db", "office.db-wal"])
         subprocess.run(["sqlite3", aside / "office.db", ".backup " + str(office.folder / "old.db")], check=True)
         check("is whole", front_of(office.folder / "old.db"), 5)
-        time.sleep(1.1)
         failed("another front", office.restored("--from", copy, *known, "4"), "is 3, not 4")
         with contextlib.suppress(OSError):
             check("the office is stopped then", office.front(), None)
-        time.sleep(1.1)
         check("by hand", office.restored("--from", copy, "--service", "none")[0], 0)
     finally:
         office.end_service()
+
+
+def killed_at_each_step(office, copy):
+    """Kills a restore before each program that it runs: the book is the one from before, which has 4 files, or the backup, which has 3."""
+    kept = office.folder / "kept"
+    subprocess.run([office.tools / "systemctl", "stop"], check=True)
+    shutil.copytree(office.home, kept)
+    names = "cp", "mv", "rm", "sync", "chown", "chmod", "mktemp", "rmdir"
+    for name in names:
+        office.tool(name, KILLING.format(name, shutil.which(name)))
+    found, steps = [], 0
+    while True:
+        steps += 1
+        for it in office.home.iterdir():
+            shutil.rmtree(it) if it.is_dir() else it.unlink()
+        shutil.copytree(kept, office.home, dirs_exist_ok=True)
+        (office.tools / "count").write_text("0")
+        (office.tools / "last").write_text(str(steps))
+        (office.tools / "killed").unlink(missing_ok=True)
+        status, _, err = office.restored("--from", copy, "--service", "none")
+        if not (office.tools / "killed").exists():
+            break
+        with common.Server(office.program, office.database) as server, contextlib.closing(server.connection()) as it:
+            found.append(common.json.loads(common.ask(it, "GET", f"/v1/senders/{SENDER}")[1])["front"])
+    for name in names:
+        (office.tools / name).unlink()
+    before = found.count(4)
+    check(f"killed at {len(found)} steps", (status, found, before > 8, len(found) - before > 3), (0, [4] * before + [3] * (len(found) - before), True, True))
+    subprocess.run([office.tools / "systemctl", "start"], check=True)
+    office.wait()
+
+
+@trial
+def moved_away(office):
+    """The file or its log is another one than the office writes."""
+    office.send(2)
+    shutil.move(office.database, office.home / "old.db")
+    failed("the file renamed", office.backed_up(), "no file")
+    shutil.copy(office.home / "old.db", office.database)
+    failed("and copied back", office.backed_up(), "does not write")
+    (office.home / "old.db").replace(office.database)
+    check("put back", office.backed_up()[0], 0)
+    log = office.home / "office.db-wal"
+    shutil.copy(log, office.home / "new")
+    (office.home / "new").replace(log)
+    failed("a copy in the log's place", office.backed_up(), "does not write")
+    check("the office is not halted", office.state() != "T")
+
+
+@trial
+def changed_bits(office):
+    """A bit of the log that drops later requests is told; a write that was broken off is none."""
+    office.send(4)
+    office.stop()
+    log = office.home / "office.db-wal"
+    sound = log.read_bytes()
+    for place in 5, 40, 4_000, 60_000, len(sound.rstrip(b"\0")) - 20_000:
+        changed = bytearray(sound)
+        changed[place] ^= 4
+        log.write_bytes(changed)
+        failed(f"bit at {place}", office.backed_up(), "is not as it was written")
+    log.write_bytes(sound[: len(sound.rstrip(b"\0")) - 3_000])
+    check("a log whose end is torn", office.backed_up()[0], 0)
+    check("it has all but the last", front_of(office.newest()), 3)
+
+
+@trial
+def new_machine(office):
+    """A restore where there was no office, and no service that is enabled."""
+    office.send(3)
+    assert office.backed_up()[0] == 0
+    copy = office.newest()
+    office.as_service()
+    subprocess.run([office.tools / "systemctl", "stop"], check=True)
+    for it in office.home.iterdir():
+        it.unlink()
+    try:
+        status, out, _ = office.restored("--from", copy, "--sender", SENDER, "--front", "3")
+        check("nothing was there", (status, "nothing was there before" in out, "systemctl enable society" in out), (0, True, True))
+        check("nothing beside", sorted(it.name for it in office.home.iterdir()), ["office.db", "office.db-wal"])
+    finally:
+        office.end_service()
+
+
+@trial
+def one_at_a_time(office):
+    """Beside a restore there is neither another nor a backup."""
+    office.send(3)
+    assert office.backed_up()[0] == 0
+    copy = office.newest()
+    office.stop()
+    (office.tools / "hold").touch()
+    office.tool("cp", SLOW_CP)
+    command = [RESTORE, "--db", office.database, "--from", copy, "--service", "none", "--program", office.program]
+    running = subprocess.Popen(command, env=office.environment(), stdout=subprocess.PIPE, stderr=subprocess.PIPE, text=True)
+    wait_for(lambda: (office.tools / "copying").exists())
+    failed("a second restore", office.restored("--from", copy, "--service", "none"), "another restore")
+    failed("a backup", office.backed_up(), "a restore of")
+    office.let_go()
+    check("the first one", ended(running)[0], 0)
+    office.tool("date", "#!/bin/sh\necho 2026-01-06-023000\n")
+    check("again in the same second", [office.restored("--from", copy, "--service", "none")[0] for _ in range(2)], [0, 0])
+    check("each keeps what was there", len(list(office.home.glob("aside-*"))), 3)
 
 
 @trial
@@ -387,19 +523,15 @@ def restores_that_end_early(office):
     office.as_service()
     try:
         # The file can't be put in place: what was there comes back.
-        office.tool("mv", '#!/bin/sh\ncase "$1" in *.new) exit 1 ;; esac\nexec /bin/mv "$@"\n')
+        office.tool("mv", "#!/bin/sh\nexit 1\n")
         status, _, err = office.restored("--from", copy, "--sender", SENDER, "--front", "3")
-        check("it could not be put in place", (status != 0, "is there again" in err), (True, True))
+        check("it could not be put in place", (status != 0, "is untouched" in err), (True, True))
         check("the office as it was", office.wait(), 4)
         check("nothing beside", sorted(it.name for it in office.home.iterdir()), ["office.db", "office.db-wal"])
-        # Killed when the old files are away and the copy is not in place yet: another run ends it.
-        office.tool("mv", '#!/bin/sh\ncase "$1" in *.new) kill -9 "$PPID" ;; *) exec /bin/mv "$@" ;; esac\n')
-        check("killed in the middle", office.restored("--from", copy, "--sender", SENDER, "--front", "3")[0], -9)
         (office.tools / "mv").unlink()
-        time.sleep(1.1)
+        killed_at_each_step(office, copy)
         check("run again", office.restored("--from", copy, "--sender", SENDER, "--front", "3")[0], 0)
         check("the office over the copy", office.wait(), 3)
-        check("what was there", sorted(it.name for path in office.home.glob("aside-*") for it in path.iterdir()), ["office.db", "office.db-wal"])
     finally:
         office.end_service()
 

@@ -4,25 +4,26 @@
 nginx runs with the example, only its ports changed, before the program over a new database; where this is root, nginx runs as the
 user www-data. Each path is asked for by nobody, a sender, a station, the user `reader` and the user `office`, with its target byte
 for byte as it stands here: with `..`, `%2e%2e`, `//`, `%2F`, as an absolute target and in other disguises. Then a pool of 4 MB is
-read slowly, and has to come whole while others are answered. Ends with status 1 where anything differs.
+read slowly, and has to come whole while others are answered. Then each limit and each header is tried (edge_limits.py), among them
+300 silent and half-open connections. With `--planted` these cases are tried without their lines, where each of them has to fail. Ends with
+status 1 where anything differs.
 """
-import base64
-import http.client
+import concurrent.futures
 import json
 import os
 import pathlib
-import socket
-import ssl
 import sys
 import tempfile
 import time
 
 import common
+import edge_limits
 from common import CSV_HEADER, FIRST, MAX_BODY, Server, changed, isrc, order_body
-from proxy import SECRET, Proxy
+from edge_asking import FIRST_SENDER as OWN
+from edge_asking import OFFICE, OTHER_SENDER as OTHER, READER, asked, connected, head_of
+from proxy import Proxy
 
-OWN, OTHER = "PB000000012", "PB000000034"
-OFFICE, READER, STATION, NOBODY = "office", "reader", "station-RADIO1", None
+STATION, NOBODY = "station-RADIO1", None
 # A reporter whose code has the form of a sender's, and the other way round.
 LIKE_A_SENDER = "station-RADIOSENDER"
 USERS = [OWN, OTHER, OFFICE, READER, STATION, LIKE_A_SENDER]
@@ -104,33 +105,6 @@ def disguises(path):
     yield from (path.upper(), path[1:], "*", f"{own}/..;/..;/..{path}", f"{own}/%252e%252e/%252e%252e/%252e%252e{path}", f"{own}/%00/../../../..{path}")
 
 
-def asked(proxy, user, method, target, body=b"", password=SECRET, port=None):
-    """The status and the body of the answer to a request whose target is sent as it is; 0 where there is no answer."""
-    name = "" if user is None else "Authorization: Basic " + base64.b64encode(f"{user}:{password}".encode()).decode() + "\r\n"
-    length = f"Content-Length: {len(body)}\r\n" if method == "PUT" else ""
-    head = f"{method} {target} HTTP/1.1\r\nHost: localhost\r\nConnection: close\r\n{name}{length}\r\n"
-    with connected(port or proxy.port, proxy) as peer:
-        peer.sendall(head.encode() + body)
-        answer = http.client.HTTPResponse(peer, method=method)
-        try:
-            answer.begin()
-        except http.client.BadStatusLine:
-            return 0, b""
-        return answer.status, answer.read()
-
-
-def connected(port, proxy, buffer=None):
-    """A connection with TLS; `buffer` bounds what the system takes of an answer before it is read."""
-    plain = socket.socket()
-    if buffer:
-        plain.setsockopt(socket.SOL_SOCKET, socket.SO_RCVBUF, buffer)
-    plain.settimeout(60)
-    plain.connect(("127.0.0.1", port))
-    context = ssl.create_default_context(cafile=proxy.home / "office.crt")
-    context.check_hostname = False
-    return context.wrap_socket(plain)
-
-
 def check(what, found, wanted):
     if found != wanted:
         WRONG.append(what)
@@ -149,24 +123,35 @@ def try_rows(proxy):
     print(f"{len(ROWS) + 5} requests by name", flush=True)
 
 
-def try_disguises(proxy):
-    """No user gets what only others may have; nobody gets the passwords or the key."""
-    count = 0
-    wanted = {path: asked(proxy, OFFICE, "GET", path)[1] for path in ("/desk/senders.json", f"/v1/senders/{OTHER}/works/W1", "/v1/accounts/I00000000199")}
+def disguised(wanted):
+    """Who asks for what in disguise, and the text that must not be in the answer."""
     for path, secret in wanted.items():
         assert secret, path
-        for target in disguises(path):
-            for user in NOBODY, OWN, STATION:
-                status, body = asked(proxy, user, "GET", target)
-                check(f"{user} GET {target}: {status}", secret in body or HIDDEN.encode() in body, False)
-                count += 1
+        yield from ((user, target, secret) for target in disguises(path) for user in (NOBODY, OWN, STATION))
+
+
+def hidden_files(proxy):
+    """The same of files of the proxy's own folder."""
     for name in "passwords", "office.key", "nginx.conf", "access.log":
         content = (proxy.home / name).read_bytes()[:60]
         for way in "/desk/../", "/desk../", "/desk/%2e%2e/", "/desk/..%2F", "/desk//../", "/", "/desk/x/../../", f"/v1/senders/{OWN}/../../../":
-            for user in NOBODY, OWN, STATION, READER, OFFICE:
-                check(f"{user} GET {way}{name}", content in asked(proxy, user, "GET", way + name)[1], False)
-                count += 1
-    print(f"{count} requests in disguise", flush=True)
+            yield from ((user, way + name, content) for user in (NOBODY, OWN, STATION, READER, OFFICE))
+
+
+def try_disguises(proxy):
+    """No user gets what only others may have; nobody gets the passwords or the key."""
+    paths = "/desk/senders.json", f"/v1/senders/{OTHER}/works/W1", "/v1/accounts/I00000000199"
+    asking = [*disguised({path: asked(proxy, OFFICE, "GET", path)[1] for path in paths}), *hidden_files(proxy)]
+
+    def try_one(number):
+        user, target, secret = asking[number]
+        status, body = asked(proxy, user, "GET", target, source=f"127.0.1.{number % 6 + 1}")
+        check(f"{user} GET {target}: {status}", secret in body or HIDDEN.encode() in body, False)
+
+    # (each 401 comes after two seconds)
+    with concurrent.futures.ThreadPoolExecutor(36) as threads:
+        list(threads.map(try_one, range(len(asking))))
+    print(f"{len(asking)} requests in disguise", flush=True)
 
 
 def close_long_pool(server):
@@ -184,11 +169,9 @@ def close_long_pool(server):
     return table
 
 
-def try_slow_reader(proxy, server):
-    table = close_long_pool(server)
-    name = base64.b64encode(f"{OFFICE}:{SECRET}".encode()).decode()
+def try_slow_reader(proxy, table):
     with connected(proxy.port, proxy, buffer=1 << 14) as peer:
-        peer.sendall(f"GET /v1/pools/9 HTTP/1.1\r\nHost: localhost\r\nConnection: close\r\nAuthorization: Basic {name}\r\n\r\n".encode())
+        peer.sendall(head_of(OFFICE, "GET", "/v1/pools/9"))
         begun, text = time.monotonic(), peer.recv(1 << 14)
         others = []
         while part := peer.recv(1 << 14):
@@ -204,22 +187,65 @@ def try_slow_reader(proxy, server):
           f"the slowest after {max(others):.2f} s", flush=True)
 
 
+def try_limits(proxy, cases):
+    for name, holds in edge_limits.tried(proxy, cases).items():
+        check(f"limit: {name}", holds, True)
+    print(f"{len(cases)} limits and headers", flush=True)
+
+
+def try_planted(cases, started):
+    """Each case fails where one of its lines is taken away, or another is put in its place."""
+    for case in cases:
+        for change in edge_limits.CASES[case]:
+            proxy = started([change])
+            try:
+                fails = not edge_limits.tried(proxy, [case])[case.__name__]
+            except (AssertionError, OSError) as error:
+                fails = str(error) or "not as wanted"
+            finally:
+                proxy.close()
+            check(f"{case.__name__} without {change[0].strip()}", bool(fails), True)
+            print(f"{case.__name__} fails without: {change[0].strip()}" if fails else "", flush=True)
+
+
+def add_works(server):
+    connection = server.connection()
+    for sender in OWN, OTHER:
+        status, text = common.ask(connection, "PUT", f"/v1/senders/{sender}/transmissions/1", changed(FIRST, 1, 4, sender.encode()))
+        assert status == 201, text
+    connection.close()
+
+
 def main():
-    options = common.parser(__doc__).parse_args()
+    options = common.parser(__doc__)
+    options.add_argument("--planted", action="store_true", help="try the limits without their lines")
+    common.add_cases(options, [it.__name__ for it in edge_limits.CASES])
+    options = options.parse_args()
     account = "www-data" if os.geteuid() == 0 else None
+    cases = [it for it in edge_limits.CASES if options.case in it.__name__]
     with tempfile.TemporaryDirectory(ignore_cleanup_errors=True) as folder, Server(options.program, f"{folder}/office.db") as server:
-        connection = server.connection()
-        for sender in OWN, OTHER:
-            status, text = common.ask(connection, "PUT", f"/v1/senders/{sender}/transmissions/1", changed(FIRST, 1, 4, sender.encode()))
-            assert status == 201, text
-        connection.close()
-        proxy = Proxy(pathlib.Path(folder), server.port, USERS, [[OTHER, HIDDEN]], account)
-        try:
-            try_rows(proxy)
-            try_disguises(proxy)
-            try_slow_reader(proxy, server)
-        finally:
-            proxy.close()
+        add_works(server)
+        table = close_long_pool(server)
+
+        def started(changes=()):
+            home = pathlib.Path(tempfile.mkdtemp(dir=folder))
+            pathlib.Path(folder).chmod(0o755)
+            proxy = Proxy(home, server.port, USERS, [[OTHER, HIDDEN]], account, changes=changes)
+            proxy.long_pool = table
+            return proxy
+
+        if options.planted:
+            try_planted(cases, started)
+        else:
+            proxy = started()
+            try:
+                if not options.case:
+                    try_rows(proxy)
+                    try_disguises(proxy)
+                    try_slow_reader(proxy, table)
+                try_limits(proxy, cases)
+            finally:
+                proxy.close()
     print(json.dumps({"wrong": WRONG}) if WRONG else "all as wanted")
     sys.exit(1 if WRONG else 0)
 

@@ -1,20 +1,27 @@
 #!/usr/bin/env bash
-# Tries the packages in a container of Debian 12 with systemd: society installed, begun, served, stopped, upgraded over itself, removed, purged,
-# installed again; society-office installed, with a backup and pages made by their units.
+# Tries the packages in two machines, which are booted containers of Debian 12 with systemd. The first: both packages installed, configured, an
+# office begun, served behind the packaged proxy with a certificate of its own, a trial office, a backup, pages, health, removed, purged. The
+# second: an office of the packages from before, upgraded while it runs, purged; then the first one's backup restored there, and the restore
+# killed at each step.
 #
 #     bench/package_trials.sh [FOLDER]
 #
-# FOLDER keeps the container's files for a next time (400 MB, some minutes to make); without it they go at the end. A line tells of each
-# trial; the status is 1 where one is not as wanted. As root, with debootstrap and systemd-container installed.
+# FOLDER keeps the machines' files for a next time (500 MB, some minutes to make); without it they go at the end. A line tells of each
+# trial; the status is 1 where one is not as wanted. As root, with debootstrap, systemd-container and what bin/package needs installed;
+# lintian reads the packages where it is there.
 set -eu
 here=$(cd "$(dirname "$(readlink -f "$0")")/.." && pwd)
+# The packages from before are those of this commit, whose office is the user `office`'s.
+OLDER=068e29d2
+NEEDED=adduser,curl,openssl,python3,python3-click,python3-jinja2,python3-rich,sqlite3,nginx-light,logrotate,systemd,systemd-sysv
 
-# What runs within the container, once it is up.
-inside() {
+# What both machines use.
+both() {
   cat <<'INSIDE'
 export DEBIAN_FRONTEND=noninteractive
 file=/var/lib/society/office.db settings=/etc/society/office.conf
-o=http://127.0.0.1:23080/v1
+o=http://127.0.0.1:23080/v1 s=https://localhost:8443 proxy=/etc/society/proxy
+units="society society-proxy society-trial society-site society-health society-backup"
 
 # What a command prints has to have this text in it: `has NAME TEXT COMMAND ..`.
 has() {
@@ -26,19 +33,36 @@ has() {
     *) echo "NOT AS WANTED: $name: $printed" ;;
   esac
 }
-ask() { curl -sS --retry 90 --retry-connrefused -H Expect: "$@"; }
+ask() { curl -sS --retry 30 --retry-delay 1 --retry-connrefused -H Expect: "$@"; }
 front() { ask $o/senders/PB000000012; }
-install() { apt-get install -y --no-install-recommends --reinstall "/srv/$package"; }
+install_these() { apt-get install -y --no-install-recommends "$@"; }
 fill_in() { printf 'SOCIETY=900\nTERRITORY=40\nNAME="EXAMPLE SOCIETY"\nPORT=23080\n' > $settings; }
 book() { cat $file $file-wal | sha256sum; }
 is_same_book() { [ "$(book)" = "$kept" ] && echo same; }
 seconds() { sleep "$1"; shift; "$@"; }
-ended() { systemctl start "$1"; systemctl show "$1" -p Result; }
+ended() { systemctl start "$1" || journalctl -q -n 5 -u "$1"; systemctl show "$1" -p Result; }
+newest() { ls -t /var/backups/society/*.db | head -n 1; }
+exposure() { systemd-analyze security --no-pager "$1.service" | sed -n 's/.*Overall exposure level for .*: \([0-9.]*\) .*/\1/p'; }
+at_most() { echo "$1" "$2" | awk '{ print ($1 != "" && $1 <= $2) ? "within" : $1 " is more than " $2 }'; }
+dangling() { find /etc /usr /lib/systemd /var -xdev -xtype l -path '*society*' | grep . || echo none; }
+send() { ask -o /dev/null -w '%{http_code}' -T /srv/$1.cwr $o/senders/PB000000012/transmissions/$1; }
+INSIDE
+}
 
-has "installed" "Setting up society" install
-has "not enabled" "disabled" systemctl is-enabled society
-has "the unit" "status 0" sh -c 'systemd-analyze verify --man=no society.service; echo status $?'
-has "its folder" "office office 750" stat -c '%U %G %a' /var/lib/society
+# The first machine.
+one() {
+  cat <<'INSIDE'
+has "installed" "Setting up society-office" install_these /srv/society_*.deb /srv/society-office_*.deb
+has "no service is enabled" "disabled disabled disabled disabled disabled disabled" \
+  sh -c 'systemctl is-enabled society society-proxy society-trial society-backup.timer society-site.timer society-health.timer | xargs'
+for it in $units; do
+  has "the unit $it" "status 0" sh -c "systemd-analyze verify --man=no $it.service; echo status \$?"
+  # (a backup has to be root's, halts another's process, and reads its files)
+  if [ $it = society-backup ]; then most=1.8; else most=1.5; fi
+  echo "exposure of $it: $(exposure $it)" >> /srv/seen
+  has "exposure of $it" within at_most "$(exposure $it)" $most
+done
+has "its folder" "_society _society 750" stat -c '%U %G %a' /var/lib/society
 has "the program is the one of the release" "OK" sh -c 'cd /usr/bin && sha256sum -c /usr/share/society/release/society.sha256'
 has "not begun before it is configured" "has no SOCIETY" society-begin
 systemctl start society
@@ -48,86 +72,199 @@ systemctl start society
 has "nor served before it is begun" "society: database empty" seconds 2 journalctl -u society
 systemctl stop society
 has "begun" "begun: society 900, territory 40, EXAMPLE SOCIETY" society-begin
-has "the file is the user's alone" "office office 600" stat -c '%U %G %a' $file
+has "the file is the user's alone" "_society _society 600" stat -c '%U %G %a' $file
 has "begun once only" "there is an office already" society-begin
 systemctl --quiet enable --now society
 has "served" '{"front":0,"held":[]}' front
-has "a file of works" '{"front":1,"state":"applied"}' ask -T /usr/share/society/examples/first.cwr $o/senders/PB000000012/transmissions/1
-if [ -e /usr/share/society/examples/dryrun ]; then
-  has "dryrun" "accepted W1 FIRST SONG" /usr/share/doc/society/examples/dryrun /usr/share/doc/society/examples/first.cwr
-fi
+has "a file of works" 201 send 1
+has "dryrun" "accepted W1 FIRST SONG" /usr/share/doc/society/examples/dryrun /usr/share/doc/society/examples/first.cwr
 kill -9 "$(systemctl show -p MainPID --value society)"
 has "started again after a kill" '{"front":1,"held":[]}' seconds 3 front
-systemctl stop society
-has "a stop is no failure" "Result=success" systemctl show society -p Result
-cp -a /var/lib/society /srv/kept
-rm $file-wal
-systemctl start society
-has "a start makes a log, as after a restore" "{" front
-systemctl stop society
-rm $file $file-wal && cp -a /srv/kept/* /var/lib/society && rm -r /srv/kept
-systemctl start society
-has "and serves what was put back" '{"front":1,"held":[]}' front
-kept=$(book)
-has "upgraded over itself while it runs" "the office runs the program of before" install
-has "it runs on" '{"front":1,"held":[]}' front
-has "the book is the same" same is_same_book
-has "the settings too" "SOCIETY=900" cat $settings
-has "still enabled" "enabled" systemctl is-enabled society
-has "removed while it runs" "Removing society" apt-get remove -y society
-has "it has stopped" "inactive" systemctl is-active society
-kept=$(book)
-has "settings stay" "SOCIETY=900" cat $settings
-has "purged" "the book stays" apt-get purge -y society
-has "settings are gone" "No such file" cat $settings
-has "nothing is enabled" "No such file" ls /etc/systemd/system/multi-user.target.wants/society.service
-has "the book is the same" same is_same_book
-has "installed again" "Setting up society" install
-fill_in
-systemctl start society
-has "the tools are installed" "Setting up society-office" apt-get install -y --no-install-recommends "/srv/$tools"
-has "no timer is enabled by that" "disabled" systemctl is-enabled society-backup.timer society-site.timer society-health.timer
-has "the units" "status 0" sh -c 'systemd-analyze verify --man=no society-backup.timer society-site.timer society-health.timer; echo status $?'
+
+has "no proxy without a certificate" "cannot load certificate" sh -c 'systemctl start society-proxy; journalctl -u society-proxy'
+systemctl stop society-proxy
+systemctl reset-failed society-proxy 2> /dev/null
+sed -i 's/default 127.0.0.1:8080/default 127.0.0.1:23080/' $proxy/nginx.conf
+(cd $proxy
+ openssl req -x509 -newkey rsa:2048 -nodes -keyout office.key -out office.crt -days 30 -subj /CN=localhost -addext subjectAltName=DNS:localhost 2> /dev/null
+ for user in office PB000000012; do echo "$user:$(openssl passwd -6 "secret of $user")" >> passwords; done
+ chown root:society-proxy office.key passwords; chmod 640 office.key passwords; chmod 644 office.crt)
+systemctl --quiet enable --now society-proxy
+tls() { curl -sS --retry 20 --retry-connrefused --cacert $proxy/office.crt -u "$1:secret of $1" "${@:2}"; }
+has "behind the proxy" '{"front":1,"held":[]}' tls PB000000012 $s/v1/senders/PB000000012
+has "another's path" 403 tls PB000000012 -o /dev/null -w '%{http_code}' $s/v1/senders/PB000000034
+has "headers" "X-Frame-Options: DENY" tls office -D - -o /dev/null $s/desk/
+has "the page for staff" "<title>The office</title>" tls office $s/desk/
+has "its senders" "PB000000012" tls office $s/desk/senders.json
+has "its faults" '"means"' tls office $s/desk/faults.json
+has "as many files as it says" "16384" sh -c 'cat /proc/$(systemctl show -p MainPID --value society-proxy)/limits | grep "open files"'
+has "logs are the proxy's alone" "society-proxy 600" stat -c '%U %a' /var/lib/society-proxy/access.log
+has "logs are turned" "access.log.1" sh -c 'logrotate -f /etc/logrotate.d/society-proxy; ls /var/lib/society-proxy'
+has "nginx goes on in the new ones" "GET /desk/" bash -c "sleep 1; $(declare -f tls); proxy=$proxy; tls office -o /dev/null $s/desk/; cat /var/lib/society-proxy/access.log"
+
+has "reloaded" "200" bash -c "systemctl reload society-proxy && sleep 1 && $(declare -f tls) && proxy=$proxy && tls office -o /dev/null -w '%{http_code}' $s/desk/"
+
 has "a backup by its unit, while the office runs" "Result=success" ended society-backup
-has "it is root's, and sound" "sound" sh -c 'society audit --db /var/backups/society/*.db --society 900 --territory 40 --name "EXAMPLE SOCIETY"'
-has "pages by their unit, out of it" "Result=success" ended society-site
-has "they are there" "index.html" ls /var/lib/society-site/site
+has "who may read it" "root society-staff 640" stat -c '%U %G %a' "$(newest)"
+has "and its folder" "root society-staff 750" stat -c '%U %G %a' /var/backups/society
+has "it is sound" "sound; halted for" journalctl -q -u society-backup
+has "a trial office over it" '{"front":1,"held":[]}' sh -c "systemctl start society-trial; curl -sS --retry 30 --retry-delay 1 --retry-connrefused http://127.0.0.1:8081/v1/senders/PB000000012"
+has "behind the proxy too" '{"front":1,"held":[]}' tls PB000000012 https://localhost:8444/v1/senders/PB000000012
+has "pages by their unit" "Result=success" ended society-site
+has "a page through the proxy" "text/html" tls office -o /dev/null -w '%{content_type}' $s/site/index.html
+has "with its style" "text/css" tls office -o /dev/null -w '%{content_type}' $s/site/office.css
+has "a sender's own statement" "<h1>Statement of PB000000012" bash -c "$(declare -f tls); proxy=$proxy; $(printf '%s' 'ask() { curl -sS -H Expect: "$@"; }'); o=$o
+  ask -o /dev/null -T /usr/share/society/examples/first.csv $o/returns/RADIO1/1; ask -o /dev/null -T /usr/share/society/examples/first.json $o/pools/7
+  systemctl start society-backup society-site; tls PB000000012 $s/statements/index.html"
+has "who may read pages" "_society society-staff 750" stat -c '%U %G %a' /var/lib/society-site
 has "the copy is gone" "No such file" ls /var/lib/society-site/copy.db
+echo 'BACKUP_OPTIONS=--place /var/backups/society-staff' > /etc/default/society-office
+has "the newest backup where staff look" "root society-staff 640" sh -c 'systemctl start society-backup; stat -c "%U %G %a" /var/backups/society-staff/copy.db'
+echo 'HEALTH_OPTIONS=--office http://127.0.0.1:23080 --db /var/lib/society/office.db --backups /var/backups/society --certificate /etc/society/proxy/office.crt' > /etc/default/society-office
+has "health by its unit" "Result=success" ended society-health
+has "it looked at the files" "is what the office writes, and its log is whole" journalctl -q -u society-health
+has "and at the memory of a start" "MemoryMax is 4,295 MB" journalctl -q -u society-health
+journalctl -q -o cat -u society-health | grep '^good\|^look\|^WRONG' | tail -n 8 >> /srv/seen
+cp -p $file /var/lib/society/moved && mv $file /var/lib/society/away && mv /var/lib/society/moved $file
+has "health of a file that was moved away" "does not write" sh -c 'systemctl start society-health; journalctl -q -n 20 -u society-health'
+has "and a backup of it" "does not write" sh -c 'systemctl start society-backup; journalctl -q -n 5 -u society-backup'
+mv /var/lib/society/away $file
 has "a backup with the office down" "Result=success" sh -c 'systemctl stop society; systemctl start society-backup; systemctl show society-backup -p Result'
+cp "$(newest)" /srv/backup.db
 systemctl start society
-has "the tools are removed" "Removing society-office" apt-get remove -y society-office
-has "the book is served" '{"front":1,"held":[]}' front
+kept=$(book)
+has "removed while all run" "Removing society" apt-get remove -y society society-office
+has "they have stopped" "inactive inactive inactive" sh -c 'systemctl is-active society society-proxy society-trial | xargs'
+has "settings stay" "SOCIETY=900" cat $settings
+kept=$(book)
+apt-get purge -y society society-office > /srv/purged 2>&1
+has "purged: the book is told" "the book stays in /var/lib/society" cat /srv/purged
+has "and the backups" "the backups stay in /var/backups/society" cat /srv/purged
+has "the book is the same" same is_same_book
+has "the backups are there" "office-" newest
+has "settings are gone" "No such file" cat $settings
+has "no link that leads nowhere" none dangling
+has "what was made of copies is gone" "No such file" ls /var/lib/society-site
 INSIDE
 }
 
-folder=${1:-$(mktemp -d)}
+# The second machine.
+two() {
+  cat <<'INSIDE'
+has "packages from before" "Setting up society-office" install_these /srv/older/society_*.deb /srv/older/society-office_*.deb
+fill_in
+has "begun by them" "begun: society 900" society-begin
+systemctl --quiet enable --now society society-backup.timer society-site.timer society-health.timer
+has "a file of works" 201 send 1
+has "a backup by them" "Result=success" ended society-backup
+kept=$(book)
+has "upgraded while it runs" "the office runs the program of before" install_these /srv/society_*.deb /srv/society-office_*.deb
+has "it runs on" '{"front":1,"held":[]}' front
+has "the book is the same" same is_same_book
+has "its owner stays" "office office 600" stat -c '%U %G %a' $file
+has "all units are there" "6" sh -c "for it in $units; do systemctl cat \$it.service > /dev/null && echo \$it; done | wc -l"
+has "still enabled" "enabled enabled enabled enabled" sh -c 'systemctl is-enabled society society-backup.timer society-site.timer society-health.timer | xargs'
+has "started again" '{"front":1,"held":[]}' sh -c "systemctl restart society; $(declare -f ask front); o=$o; front"
+has "as its owner" "office" sh -c 'ps -o user= -p "$(systemctl show -p MainPID --value society)" 2> /dev/null || stat -c %U /proc/$(systemctl show -p MainPID --value society)'
+has "a backup by the new ones" "Result=success" ended society-backup
+has "pages by the new ones" "Result=success" ended society-site
+echo 'HEALTH_OPTIONS=--office http://127.0.0.1:23080 --db /var/lib/society/office.db --backups /var/backups/society' > /etc/default/society-office
+has "health by the new ones" "Result=success" ended society-health
+kept=$(systemctl stop society; book)
+apt-get purge -y society society-office > /srv/purged 2>&1
+has "purged: the book is told" "the book stays in /var/lib/society, and the user office" cat /srv/purged
+has "the book is the same" same is_same_book
+has "no link that leads nowhere" none dangling
+
+rm -rf /var/lib/society /var/backups/society
+has "installed on a new machine" "Setting up society-office" install_these /srv/society_*.deb /srv/society-office_*.deb
+fill_in
+restore() { society-restore --from "$1" --db $file --port 23080 --sender PB000000012 --front "$2" 2>&1 | tee /srv/told; }
+has "a backup of the first machine restored" "nothing was there before" restore /srv/backup.db 1
+has "its owner" "_society _society 600" stat -c '%U %G %a' $file
+has "it is told that no start starts it" "systemctl enable society" sh -c 'cat /srv/told'
+systemctl --quiet enable society
+has "served" '{"front":1,"held":[]}' front
+has "a further file" 201 send 2
+has "restored over a running office" "what was there is in" restore /srv/backup.db 1
+INSIDE
+  killed
+}
+
+# Kills a restore before each program that it runs, while systemd has the service: the office that starts then has 2 files or 1, never none.
+killed() {
+  cat <<'INSIDE'
+has "a further file" 201 send 2
+systemctl stop society
+rm -rf /srv/before && cp -a /var/lib/society /srv/before && rm -rf /srv/before/aside-*
+mkdir -p /srv/killing
+for name in cp mv rm sync chown chmod mktemp rmdir systemctl; do
+  printf '#!/bin/bash\ncount=$(($(cat /srv/count) + 1)); echo $count > /srv/count\nif [ $count = "$(cat /srv/last)" ]; then echo %s > /srv/killed; kill -9 $PPID; exit 1; fi\nexec %s "$@"\n' \
+    "$name" "$(command -v "$name")" > /srv/killing/$name
+  chmod 755 /srv/killing/$name
+done
+fronts= step=0
+while step=$((step + 1)); [ $step -lt 60 ]; do
+  systemctl stop society
+  systemctl reset-failed society 2> /dev/null
+  rm -rf /var/lib/society/* /var/lib/society/.restoring* && cp -a /srv/before/. /var/lib/society/
+  systemctl start society
+  front > /dev/null 2>&1
+  echo 0 > /srv/count; echo $step > /srv/last; rm -f /srv/killed
+  # (the shell's own line on a program that was killed is not for the list of trials)
+  { PATH=/srv/killing:$PATH restore /srv/backup.db 1; } > /dev/null 2>&1
+  [ -e /srv/killed ] || break
+  systemctl start society
+  fronts+=$(front 2> /dev/null | sed 's/{"front":\([0-9]*\),.*/\1/')
+done
+echo "killed at $((step - 1)) steps, fronts then: $fronts" >> /srv/seen
+has "killed at each step: the book from before, or the backup" "only 2 and 1" sh -c "echo $fronts | grep -q '^22222*11*2*1*$' && [ ${#fronts} = $((step - 1)) ] && [ $step -gt 20 ] && echo only 2 and 1; echo $fronts"
+INSIDE
+}
+
+# Boots a machine over what was installed, which runs this script and ends: `machine NAME`.
+machine() {
+  local root=$folder/$1
+  rm -rf "$root"
+  cp -a "$folder/root" "$root"
+  cp "$folder"/new/*.deb "$root/srv"
+  cp -r "$folder/older" "$root/srv"
+  cp "$here/examples/first.cwr" "$root/srv/1.cwr"
+  sed s/NWR/REV/ "$here/examples/first.cwr" > "$root/srv/2.cwr"
+  [ ! -e "$folder/backup.db" ] || cp "$folder/backup.db" "$root/srv"
+  { both && "$1"; } > "$root/srv/trials"
+  printf '[Unit]\nAfter=multi-user.target\n[Service]\nType=oneshot\nExecStart=/bin/bash /srv/trials\nExecStopPost=/bin/systemctl poweroff --force\n%s\n%s\n' \
+    StandardOutput=file:/srv/printed StandardError=inherit > "$root/etc/systemd/system/trials.service"
+  mkdir -p "$root/etc/systemd/system/graphical.target.wants"
+  ln -sf ../trials.service "$root/etc/systemd/system/graphical.target.wants/trials.service"
+  systemd-nspawn --quiet --register=no --keep-unit --private-network -D "$root" --boot < /dev/null > "$folder/boot-$1.log" 2>&1 || true
+  [ ! -e "$root/srv/backup.db" ] || cp "$root/srv/backup.db" "$folder"
+  sed "s/^/$1: /" "$root/srv/printed"
+  sed "s/^/$1 saw: /" "$root/srv/seen" 2> /dev/null || true
+}
+
+folder=$(realpath -m "${1:-$(mktemp -d)}")
 [ -n "${1:-}" ] || trap 'rm -rf "$folder"' EXIT
-root=$folder/root
-if [ ! -d "$root" ]; then
-  mkdir -p "$folder"
-  debootstrap --variant=minbase --include=adduser,curl,openssl,python3,python3-click,python3-jinja2,python3-rich,sqlite3,systemd,systemd-sysv bookworm "$folder/making" > "$folder/making.log"
-  mv "$folder/making" "$root"
+mkdir -p "$folder"
+if [ ! -d "$folder/root" ]; then
+  debootstrap --variant=minbase --include=$NEEDED bookworm "$folder/making" > "$folder/making.log"
+  mv "$folder/making" "$folder/root"
 fi
-# (an earlier time may have left an office)
-chroot "$root" dpkg --purge society-office society > /dev/null 2>&1 || true
-rm -rf "$root"/var/lib/society* "$root/var/backups/society" "$root"/srv/*
-"$here/bin/package" "$root/srv" > "$folder/packages"
+if [ ! -d "$folder/older" ]; then
+  git clone -q "$here" "$folder/checkout"
+  git -C "$folder/checkout" checkout -q $OLDER
+  "$folder/checkout/bin/package" "$folder/older" > /dev/null
+  rm -rf "$folder/checkout"
+fi
+rm -rf "$folder/new" "$folder/backup.db"
+"$here/bin/package" "$folder/new" > /dev/null
 {
-  sed -n '1s|.*/|package=|p; 2s|.*/|tools=|p' "$folder/packages"
-  inside
-} > "$root/srv/trials"
-cat > "$root/etc/systemd/system/trials.service" <<'UNIT'
-[Unit]
-After=multi-user.target
-[Service]
-Type=oneshot
-ExecStart=/bin/bash /srv/trials
-ExecStopPost=/bin/systemctl poweroff --force
-StandardOutput=file:/srv/printed
-StandardError=inherit
-UNIT
-mkdir -p "$root/etc/systemd/system/graphical.target.wants"
-ln -sf ../trials.service "$root/etc/systemd/system/graphical.target.wants/trials.service"
-systemd-nspawn --quiet --register=no --keep-unit --private-network -D "$root" --boot < /dev/null > "$folder/boot.log" 2>&1 || true
-cat "$root/srv/printed"
-grep -q '^as wanted: the book is served' "$root/srv/printed" && ! grep -v '^as wanted' "$root/srv/printed" > /dev/null
+  if command -v lintian > /dev/null; then
+    said=$(lintian --allow-root --fail-on none "$folder"/new/*.deb 2>&1)
+    if [ -z "$said" ]; then echo "as wanted: lintian says nothing"; else echo "NOT AS WANTED: lintian: $said"; fi
+  fi
+  machine one
+  machine two
+} | tee "$folder/printed"
+rm -rf "$folder/one" "$folder/two"
+grep -q 'as wanted: killed at each step' "$folder/printed" && ! grep -q 'NOT AS WANTED' "$folder/printed"

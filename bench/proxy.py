@@ -1,4 +1,4 @@
-"""nginx before an office, with examples/nginx.conf, of which only the ports are changed."""
+"""nginx before an office, with examples/nginx.conf, of which only the ports and the folder of the nightly pages are changed."""
 import json
 import os
 import pathlib
@@ -20,13 +20,16 @@ class Proxy:
     """nginx in a folder of its own, with a certificate, users who all have the password SECRET, and a copy of the page for staff.
 
     `senders` are the pairs of senders.json. `account` is the user of the system as whom all of nginx runs; without it nginx runs as
-    who started it, and its worker as the one that its packager chose where that is root.
+    who started it, and its worker as the one that its packager chose where that is root. `changes` are texts of the configuration, each
+    with what is put in its place. Nightly pages, a few files in place of those, are in `pages`.
     """
 
-    def __init__(self, folder, office_port, users, senders, account=None, trial_office_port=None):
+    def __init__(self, folder, office_port, users, senders, account=None, trial_office_port=None, changes=()):
         self.port, self.trial_port, self.home = common.free_port(), common.free_port(), folder / "proxy"
+        self.pages, self.trial_office_port = self.home / "pages", trial_office_port or common.free_port()
         self.home.mkdir()
-        self.configure(office_port, trial_office_port)
+        self.configure(office_port, changes)
+        self.make_pages(users)
         shutil.copytree(PAGE, self.home / "desk")
         (self.home / "desk/senders.json").write_text(json.dumps(senders))
         key = ["openssl", "req", "-x509", "-newkey", "rsa:2048", "-nodes", "-keyout", self.home / "office.key", "-out", self.home / "office.crt"]
@@ -35,21 +38,30 @@ class Proxy:
         (self.home / "passwords").write_text("".join(f"{user}:{password}" for user in users))
         # Where nginx is started as root, its worker is another user, who has to read all this.
         folder.chmod(0o755)
-        command = ["nginx", "-p", self.home, "-c", self.home / "nginx.conf", "-g", "daemon off;"]
+        # (by itself a service may have 1,024 files open)
+        command = ["prlimit", "--nofile=1024:", "nginx", "-p", self.home, "-c", self.home / "nginx.conf", "-g", "daemon off;"]
         if account and os.geteuid() == 0:
             self.hand_over(account)
             command = ["setpriv", f"--reuid={account}", f"--regid={account}", "--clear-groups", *command]
         self.process = subprocess.Popen(command, stderr=subprocess.DEVNULL)
         self.wait()
 
-    def configure(self, office_port, trial_office_port):
+    def configure(self, office_port, changes):
         """The example with other ports; without a trial office its port leads to one that nobody listens on."""
         text = (ROOT / "examples/nginx.conf").read_text()
-        ports = {"8443": self.port, "8444": self.trial_port, "8080": office_port, "8081": trial_office_port or common.free_port()}
-        for old, new in ports.items():
-            assert old in text, f"examples/nginx.conf names no port {old}"
-            text = text.replace(old, str(new))
+        ports = {"8443": self.port, "8444": self.trial_port, "8080": office_port, "8081": self.trial_office_port}
+        for old, new in [*changes, ("/var/lib/society-site", str(self.pages)), *((old, str(new)) for old, new in ports.items())]:
+            assert old in text, f"examples/nginx.conf has no {old}"
+            text = text.replace(old, new)
         (self.home / "nginx.conf").write_text(text)
+
+    def make_pages(self, users):
+        """Files in the place of the nightly pages and statements, of each kind."""
+        for name in ["site", *(f"statements/{user}" for user in users)]:
+            folder = self.pages / name
+            folder.mkdir(parents=True)
+            for file in "index.html", "office.css", "balances.csv", "statement.csv", "some.pdf", "some.other":
+                (folder / file).write_text(name)
 
     def hand_over(self, account):
         """Gives the folder and all in it to a user of the system."""
