@@ -1,16 +1,14 @@
 #!/usr/bin/python3
 """Measures society-office over a large office: seconds and peak memory of each command.
 
-The office is made by SQL from the layout's own texts: works in files of 800 of some senders, each with a publisher and a writer, a
-recording and a title of its own; pools over as many returns, each with a row for every tenth work. Its rows are of the right form and its
-sums agree, and so the commands read it; the program has not credited it.
+The program makes the office: works in files of 800 of some senders, each with a publisher and a writer, a recording and a title of its
+own, and of every twentieth work half is nobody's; pools over as many returns, each with a row for every tenth work. The status is 1
+where a command fails.
 """
 import argparse
-import contextlib
+import json
 import os
 import pathlib
-import re
-import sqlite3
 import subprocess
 import sys
 import tempfile
@@ -18,9 +16,15 @@ import time
 
 OFFICE = pathlib.Path(__file__).resolve().parent.parent
 ROOT = OFFICE.parent
+sys.path.insert(0, str(OFFICE))
+
+from society_office import fields, plays  # noqa: E402 (the folder of the checkout comes first)
+from society_office.copy import open_copy  # noqa: E402
+from society_office.program import Office, find_program, trial_office  # noqa: E402
+
 FIRST_LINES = (ROOT / "examples/first.cwr").read_bytes().split(b"\r\n")
-TABLE = re.compile(r'"(CREATE TABLE [^"]*STRICT)"')
-PER_FILE, WRITERS, PER_RECORDING = 800, 5_000, 997
+WORDS = ["--society", "900", "--territory", "40", "--name", "EXAMPLE SOCIETY"]
+PER_FILE, WRITERS, PER_RECORDING, EVERY = 800, 5_000, 997, 10
 
 
 def sender_of(k: int) -> str:
@@ -39,16 +43,25 @@ def publisher(sender: int) -> str:
     return f"{500 + sender:011d}"
 
 
+def put(line: bytearray, place: fields.Field, value: bytes) -> None:
+    """Writes a field over."""
+    line[place.first - 1 : place.last] = value.ljust(place.last - place.first + 1)
+
+
 def work_lines(place: int, k: int, sender: int) -> bytes:
     """The lines of the k-th work, at a place of its file."""
-    lines = [bytearray(it) for it in FIRST_LINES[2:-3]]
+    work, house, rows, person, share, *others, recording = (bytearray(it) for it in FIRST_LINES[2:-3])
+    lines = [work, house, rows, person, share, *others, recording]
     for it in lines:
-        it[3:11] = b"%08d" % place
-    lines[0][19:79] = (b"SONG NUMBER %d" % k).ljust(60)
-    lines[0][81:95] = (b"W%d" % k).ljust(14)
-    lines[1][87:98], lines[3][115:126] = publisher(sender).encode(), writer(k).encode()
-    lines[3][28:73] = (b"WRITER %d" % (k % WRITERS)).ljust(45)
-    lines[-1][249:261] = isrc(k).encode()
+        put(it, fields.SEQUENCES[0], b"%08d" % place)
+    put(work, fields.TITLE, b"SONG NUMBER %d" % k)
+    put(work, fields.WORK_NUMBER, b"W%d" % k)
+    put(house, fields.PUBLISHER.ipi, publisher(sender).encode())
+    put(person, fields.WRITER.ipi, writer(k).encode())
+    put(person, fields.WRITER.name, b"WRITER %d" % (k % WRITERS))
+    if k % 200 < 10:
+        put(share, fields.ROWS[b"SWT"].collects.pr, b"00000")
+    put(recording, fields.ISRC, isrc(k).encode())
     return b"\r\n".join(lines) + b"\r\n"
 
 
@@ -61,59 +74,42 @@ def file_of(first: int, count: int, sender: int) -> bytes:
 
 
 def make(path: pathlib.Path, works: int, pools: int, senders: int) -> None:
-    """Writes the file of an office."""
-    with contextlib.closing(sqlite3.connect(path)) as database:
-        for text in TABLE.findall((ROOT / "crates/society_rows/src/layout.rt").read_text()):
-            database.execute(text)
-        database.execute("INSERT INTO office VALUES (1, 3, 900, 40, 'EXAMPLE SOCIETY')")
-        owners = add_works(database, works, senders)
-        balances: dict[str, int] = {}
+    """Has the program write the file of an office."""
+    with trial_office(find_program(), WORDS) as trial:
+        cut = add_works(trial.office, works, senders)
         for pool in range(1, pools + 1):
-            add_pool(database, pool, works, owners, balances)
-        database.executemany("INSERT INTO balances VALUES (?, ?)", sorted(balances.items()))
-        database.commit()
+            add_pool(trial.office, pool, works, cut)
+        trial.end()
+        with open_copy(trial.database) as copy:
+            copy.save(path)
 
 
-def add_works(database: sqlite3.Connection, works: int, senders: int) -> list[int]:
-    """Adds all works; answers whose each is."""
-    owners, numbers, counts = [0] * works, [0] * senders, [0] * senders
+def sent(office: Office, path: str, body: bytes) -> None:
+    """Sends a body, which has to be taken."""
+    answer = office.ask("PUT", f"/v1/{path}", body)
+    if answer.status != 201:
+        sys.exit(f"{path}: status {answer.status}, {answer.body.decode(errors='replace')}")
+
+
+def add_works(office: Office, works: int, senders: int) -> dict[str, int]:
+    """Sends all works; answers how many files each sender has."""
+    numbers: dict[str, int] = {}
     for file, first in enumerate(range(0, works, PER_FILE)):
-        sender, count = file % senders, min(PER_FILE, works - first)
-        numbers[sender] += 1
-        key, number = sender_of(sender), numbers[sender]
-        database.execute("INSERT INTO transmissions VALUES (?, ?, ?)", (key, number, file_of(first, count, sender)))
-        listed = range(first, first + count)
-        owners[first : first + count] = [sender] * count
-        ordinals = range(counts[sender] + 1, counts[sender] + count + 1)
-        database.executemany("INSERT INTO verdicts VALUES (?, ?, ?, 0, ?, 0)", [(key, number, k, it) for k, it in enumerate(ordinals)])
-        rows = [(key, f"W{k}", number, place, ordinal) for place, (k, ordinal) in enumerate(zip(listed, ordinals))]
-        database.executemany("INSERT INTO versions VALUES (?, ?, 0, ?, ?, ?)", rows)
-        database.executemany("INSERT INTO recordings VALUES (?, ?, 0, ?)", [(key, f"W{k}", isrc(k)) for k in listed])
-        counts[sender] += count
-    database.executemany(
-        "INSERT INTO fronts VALUES (?, ?, ?)", [(sender_of(k), numbers[k], counts[k]) for k in range(senders) if numbers[k]]
-    )
-    return owners
+        sender = file % senders
+        key = sender_of(sender)
+        numbers[key] = numbers.get(key, 0) + 1
+        sent(office, f"senders/{key}/transmissions/{numbers[key]}", file_of(first, min(PER_FILE, works - first), sender))
+    return numbers
 
 
-def add_pool(database: sqlite3.Connection, pool: int, works: int, owners: list[int], balances: dict[str, int]) -> None:
-    """Adds a return, and a pool over it; of every twentieth recording half is nobody's."""
-    played = range(pool % 10, works, 10)
+def add_pool(office: Office, pool: int, works: int, cut: dict[str, int]) -> None:
+    """Sends a return, and closes a pool over it."""
+    played = range(pool % EVERY, works, EVERY)
     body = b"isrc,plays,seconds\n" + b"".join(b"%s,%d,%d\n" % (isrc(k).encode(), k % 1_000 + 1, k % 300 + 60) for k in played)
-    database.execute("INSERT INTO returns VALUES (?, ?, ?)", (f"RADIO{pool % 5}", pool, body))
-    rows, line = [], 0
-    for k in played:
-        half = PER_RECORDING // 2
-        nobody = PER_RECORDING - half if k % 200 < 10 else 0
-        shares = [("I" + publisher(owners[k]), half), ("I" + writer(k), PER_RECORDING - half - nobody), ("UNCLAIMED", nobody)]
-        for account, units in shares:
-            rows.append((pool, line, isrc(k), account, units))
-            balances[account] = balances.get(account, 0) + units
-            line += 1
-    database.execute("INSERT INTO pools VALUES (?, ?)", (pool, PER_RECORDING * len(played)))
-    database.executemany("INSERT INTO pool_cuts SELECT ?, sender, front FROM fronts", [(pool,)])
-    database.execute("INSERT INTO pool_returns VALUES (?, ?, ?)", (f"RADIO{pool % 5}", pool, pool))
-    database.executemany("INSERT INTO credits VALUES (?, ?, ?, ?, ?)", rows)
+    reporter = f"RADIO{pool % 5}"
+    sent(office, f"returns/{reporter}/{pool}", body)
+    order = {"amount": PER_RECORDING * len(played), "cut": list(cut.items()), "returns": [[reporter, pool]]}
+    sent(office, f"pools/{pool}", json.dumps(order).encode())
 
 
 def measured(*words: str) -> None:
@@ -133,6 +129,8 @@ def measured(*words: str) -> None:
         f"{what}: {passed:.1f} s passed, {used.ru_utime + used.ru_stime:.1f} s of processor, {used.ru_maxrss / 1_000:,.0f} MB; {last}",
         flush=True,
     )
+    if status:
+        sys.exit(f"{what}: status {os.waitstatus_to_exitcode(status)}")
 
 
 def main() -> None:
@@ -141,8 +139,10 @@ def main() -> None:
     options.add_argument("--pools", type=int, default=100)
     options.add_argument("--senders", type=int, default=50, help="publishers, of as many works each (default: 50)")
     options.add_argument("--file", type=pathlib.Path, help="keep the office in this file; it is used again where it is there")
-    options.add_argument("--all", action="store_true", help="also the statements of everybody")
+    options.add_argument("--all", action="store_true", help="also a rebuilt office, and the statements of everybody")
     options = options.parse_args()
+    if options.works > EVERY * plays.MOST_ROWS:
+        sys.exit(f"a return has {plays.MOST_ROWS:,} rows at most: measure {EVERY * plays.MOST_ROWS:,} works, or fewer")
     with tempfile.TemporaryDirectory() as folder:
         path = options.file or pathlib.Path(folder) / "large-office-of-a-hundred-thousand.db"
         if not path.exists():
@@ -156,13 +156,17 @@ def main() -> None:
             measured("statement", copy, key)
             measured("statement", copy, key, "--format", "csv", "--output", f"{folder}/{key}.csv")
         measured("statement", copy, "UNCLAIMED", "--format", "html", "--output", f"{folder}/unclaimed.html")
+        measured("explain", copy, f"I{writer(17)}", "--pool", "7" if options.pools >= 7 else "1", "--format", "csv")
+        measured("balances", copy, "--output", f"{folder}/balances.csv")
         measured("parties", copy, "--output", f"{folder}/parties.csv")
-        measured("unclaimed", copy, "--pool", "7", "--format", "json")
+        measured("unclaimed", copy, "--pool", "1", "--format", "json")
         measured("unclaimed", copy)
-        measured("propose", copy, "--amount", "100000")
+        measured("propose", copy, "--amount", "100000", "--no-returns")
         measured("why", copy, sender_of(some))
         measured("site", copy, "--into", f"{folder}/site")
         if options.all:
+            measured("rebuild", copy)
+            measured("compare", copy, copy)
             measured("statement", copy, "--all", "--into", f"{folder}/statements")
 
 

@@ -7,24 +7,28 @@ from collections.abc import Iterator, Sequence
 from typing import Any, Protocol
 
 from society_office import faults
-from society_office.cwr_faults import CheckedFile, CheckedWork, Fault, all_faults, checked
+from society_office.cwr_faults import CheckedFile, all_faults, checked
 from society_office.errors import OfficeError
-from society_office.numbering import FILE_NAME, PLAIN, as_sent, number_in, rank_in, rank_of, segment_of, segment_text
+from society_office.fields import ACK_NUMBER, ACK_TITLE, MAX_BODY, WorkFault
+from society_office.numbering import FILE_NAME, as_sent, number_in, path_of, rank_in, rank_of, segment_of, segment_text
 from society_office.plays import BOM
-from society_office.program import LARGEST_BODY, Answer
+from society_office.program import Answer
 from society_office.records import text
 from society_office.return_faults import looks_like_return, return_faults
+from society_office.work_faults import CheckedWork, Fault, first_warnings, warned
 
 SENDER = re.compile(r"[0-9A-Z]{11}", re.ASCII)
 TAKEN = (200, 201, 202)
 # Faults that only what was registered before shows.
-OF_THE_LINE = (20, 21)
-# The reporter and the sender's code under which a trial office is asked.
-TRIAL_REPORTER, TRIAL_CODE = "CHECK", "CHK"
+OF_THE_LINE = (WorkFault.REGISTERED, WorkFault.NOT_REGISTERED)
+# The reporter under which a trial office is asked.
+TRIAL_REPORTER = "CHECK"
 # The numbers under which returns are tried: high ones, which a trial office over last night's copy has not.
 FIRST_RETURN, RETURN_STEP = 900_001, 1_000
 NEW_LINE = b"\n"
-ACK_NUMBER, ACK_TITLE = slice(109, 129), slice(49, 109)
+# What a trial office makes of files that it has from an earlier check.
+TRIED_BEFORE = "the trial office has this very file under this number already; what became of it then is told"
+KEEPS = "the trial office keeps what is checked until it begins anew in the night: {} may come of an earlier check"
 
 
 class Asked(Protocol):
@@ -53,6 +57,20 @@ class Sent:
     verdicts: list[dict[str, int]] = dataclasses.field(default_factory=list)
     titles: list[tuple[str, str]] = dataclasses.field(default_factory=list)
     differs: list[str] = dataclasses.field(default_factory=list)
+    elsewhere: str = ""
+    tried_before: bool = False
+    is_reused: bool = False
+
+    @property
+    def warnings(self) -> list[str]:
+        """What may be wrong with its works, though it is no fault."""
+        return [it for work in self.own.works for it in warned(work)]
+
+    @property
+    def notes(self) -> list[str]:
+        """What else has to be said of it."""
+        other = [f"the name says that it goes to society {self.elsewhere}, which is not this one"] if self.elsewhere else []
+        return [*other, *([TRIED_BEFORE] if self.tried_before else []), *self.differs]
 
     @property
     def is_return(self) -> bool:
@@ -100,11 +118,14 @@ def begin_of(body: bytes) -> str:
     return f"{mark}{text(body.removeprefix(BOM).partition(NEW_LINE)[0][:14])!r}" if body else "nothing"
 
 
-def check(office: Asked, society: int, territory: int, files: list[Sent], reporter: str = TRIAL_REPORTER) -> Checked:
-    """Tries files at an office that is thrown away: those of a sender in their order, under the numbers behind its front."""
+def check(office: Asked, society: int, territory: int, files: list[Sent], reporter: str = TRIAL_REPORTER, keeps: bool = False) -> Checked:
+    """Tries files at an office that is thrown away: those of a sender in their order, under the numbers behind its front.
+
+    Where the office keeps what is tried, as a trial office does until the night, what may come of that is said."""
     ends: list[str] = []
     for sender in dict.fromkeys(it.sender for it in files if not it.is_return):
-        ends += check_sender(office, society, territory, sender, [it for it in files if not it.is_return and it.sender == sender])
+        own = [it for it in files if not it.is_return and it.sender == sender]
+        ends += check_sender(office, society, territory, sender, own, keeps)
     for number, it in enumerate((it for it in files if it.is_return), FIRST_RETURN):
         check_return(office, f"/v1/returns/{reporter}", number, it)
     return Checked(files, ends)
@@ -112,13 +133,14 @@ def check(office: Asked, society: int, territory: int, files: list[Sent], report
 
 def check_return(office: Asked, path: str, number: int, it: Sent) -> None:
     """Tries a return under the first number from this one on that is free."""
-    it.label, it.rows = it.name, return_faults(it.body)
+    it.label = it.name
     answer = put(office, f"{path}/{number}", it)
     while answer is not None and answer.json.get("error") == "reused":
         number += RETURN_STEP
         answer = put(office, f"{path}/{number}", it)
     if answer is None:
         return
+    it.rows = return_faults(it.body)
     it.state = "stored" if answer.status in TAKEN else "refused"
     it.refusal = "" if answer.status in TAKEN else faults.refusal_text("return", answer)
     own = (it.rows[0].number, it.rows[0].line) if it.rows else None
@@ -129,8 +151,8 @@ def check_return(office: Asked, path: str, number: int, it: Sent) -> None:
 
 def put(office: Asked, path: str, it: Sent) -> Answer | None:
     """The answer to a file; None where it is too large to be sent at all, which is noted."""
-    if len(it.body) > LARGEST_BODY:
-        it.state, it.refusal = "refused", f"413: over {LARGEST_BODY:,} bytes; spread it over more numbers"
+    if len(it.body) > MAX_BODY:
+        it.state, it.refusal = "refused", f"413: over {MAX_BODY:,} bytes; spread it over more numbers"
         return None
     return office.ask("PUT", path, it.body)
 
@@ -140,13 +162,15 @@ def fault_at(found: tuple[int, int] | None, word: str) -> str:
     return "no fault" if found is None else f"fault {found[0]} at {word} {found[1]}"
 
 
-def check_sender(office: Asked, society: int, territory: int, sender: str, files: list[Sent]) -> list[str]:
+def check_sender(office: Asked, society: int, territory: int, sender: str, files: list[Sent], keeps: bool) -> list[str]:
     """Tries a sender's files; answers the ends that were stated so that they follow one another."""
     asked = office.ask("GET", f"/v1/senders/{sender}")
     if asked.status != 200:
         raise OfficeError(f"{sender} can't be asked for: {faults.refusal_text('file', asked)}")
     front = rank_of(asked.json["front"]) or 0
     give_numbers(files, front, society)
+    if keeps and are_there(office, sender, front, files, society):
+        give_numbers(files, front - len(unnamed(files)), society)
     for it in files:
         it.own = checked(it.body, sender, territory)
         if (answer := put(office, f"/v1/senders/{sender}/{it.path}", it)) is not None:
@@ -155,25 +179,50 @@ def check_sender(office: Asked, society: int, territory: int, sender: str, files
     for it in files:
         if it.state in ("applied", "held"):
             ask_verdicts(office, sender, it)
+        if keeps:
+            note_kept(it)
     return ends
+
+
+def unnamed(files: list[Sent]) -> list[Sent]:
+    """The files that are not named by year, which get the numbers behind the front."""
+    return [it for it in files if not FILE_NAME.fullmatch(pathlib.Path(it.name).name)]
+
+
+def are_there(office: Asked, sender: str, front: int, files: list[Sent], society: int) -> bool:
+    """Whether the last files of a sender are these very ones, from an earlier check: then sending them again changes nothing."""
+    tried = unnamed(files)
+    if not 0 < len(tried) <= number_in(front):
+        return False
+    paths = (path_of(front - len(tried) + k, society) for k in range(1, len(tried) + 1))
+    for it, path in zip(tried, paths):
+        answer = put(office, f"/v1/senders/{sender}/{path}", it)
+        if answer is None or answer.status != 200:
+            return False
+    for it in tried:
+        it.tried_before = True
+    return True
+
+
+def note_kept(it: Sent) -> None:
+    """Notes what may come of an earlier check at an office that keeps what is tried."""
+    if any(verdict.get("fault") == WorkFault.REGISTERED for verdict in it.verdicts):
+        it.differs.append(KEEPS.format(f"fault {WorkFault.REGISTERED}"))
+    if it.is_reused:
+        it.differs.append(KEEPS.format("what stands under this number"))
 
 
 def give_numbers(files: list[Sent], front: int, society: int) -> None:
     """Gives each file its number: that of its name by year, else the next one behind the front."""
     following = front
     for it in files:
-        name = FILE_NAME.fullmatch(pathlib.Path(it.name).name)
-        if name:
+        if name := FILE_NAME.fullmatch(pathlib.Path(it.name).name):
             it.number = rank_in(int(name[1]), int(name[2]))
             it.path, it.label = f"files/{name[0]}", f"{as_sent(it.number)} {it.name}"
-            if int(name[3]) != society:
-                it.differs.append(f"the name says that it goes to society {name[3]}, and this is {society:03d}")
+            it.elsewhere = name[3] if int(name[3]) != society else ""
             continue
         following += 1
-        it.number, it.label = following, f"{as_sent(following)} {it.name}"
-        year, number = segment_of(following), number_in(following)
-        by_year = f"files/CW{year:02d}{number:04d}{TRIAL_CODE}_{society:03d}.V22"
-        it.path = f"transmissions/{following}" if year == PLAIN else by_year
+        it.number, it.label, it.path = following, f"{as_sent(following)} {it.name}", path_of(following, society)
 
 
 def take_answer(it: Sent, answer: Answer) -> None:
@@ -182,6 +231,7 @@ def take_answer(it: Sent, answer: Answer) -> None:
         it.state = "applied" if answer.json.get("state") == "applied" else "held"
     else:
         it.state, it.refusal = "refused", faults.refusal_text("file", answer)
+        it.is_reused = answer.json.get("error") == "reused"
     first = it.own.faults[0] if it.own.faults else None
     own = (first.number, first.line) if first else None
     told = (answer.json["fault"], answer.json["line"]) if answer.status == 422 else None
@@ -212,7 +262,7 @@ def ask_verdicts(office: Asked, sender: str, it: Sent) -> None:
         return
     it.state, it.verdicts = "applied", answer.json
     acknowledged = office.ask("GET", f"/v1/senders/{sender}/acks/{as_sent(it.number)}").body
-    it.titles = [(text(line[ACK_NUMBER]), text(line[ACK_TITLE])) for line in acknowledged.split(b"\r\n") if line.startswith(b"ACK")]
+    it.titles = [(text(ACK_NUMBER.of(line)), text(ACK_TITLE.of(line))) for line in acknowledged.split(b"\r\n") if line.startswith(b"ACK")]
     if len(it.own.works) != len(it.verdicts):
         it.differs.append(f"our own reading finds {len(it.own.works)} works, the program {len(it.verdicts)}: the program is right")
         return
@@ -293,7 +343,8 @@ def full_lines(checked_files: Checked) -> Iterator[str]:
         yield from work_lines(it, brief=False)
         if it.state != "applied":
             yield from (f"  {explained(fault)}" for fault in (it.rows if it.is_return else all_faults(it.own)))
-        yield from (f"  note: {line}" for line in it.differs)
+        yield from (f"  {line}" for line in first_warnings(it.warnings))
+        yield from (f"  note: {line}" for line in it.notes)
 
 
 def as_data(checked_files: Checked) -> list[dict[str, Any]]:
@@ -313,7 +364,8 @@ def as_data(checked_files: Checked) -> list[dict[str, Any]]:
                 }
                 for fault in (it.rows if it.is_return else all_faults(it.own))
             ],
-            "notes": it.differs,
+            "warnings": it.warnings,
+            "notes": it.notes,
         }
         for it in checked_files.files
     ]

@@ -1,23 +1,20 @@
 """What faults and refusals mean and how they are cured, in the words of the office's own table."""
 
 import functools
+import importlib.resources
 import json
-import pathlib
 from typing import TYPE_CHECKING, Any
 
-from society_office.errors import OfficeError
+from society_office.fields import MAX_BODY
 
 if TYPE_CHECKING:
     from society_office.program import Answer
 
-HERE = pathlib.Path(__file__).resolve().parent
-# The table of the page for staff: in a checkout, and as it is installed.
-PLACES = (HERE.parent.parent / "examples/desk/faults.json", pathlib.Path("/usr/share/society/faults.json"))
 NOT_TAKEN = {
     401: "the proxy wants a user and a password",
     403: "the proxy does not let this user do that",
     404: "a number, the sender or the reporter is not one that the office takes",
-    413: "it is longer than 1,048,576 bytes: spread it over more numbers",
+    413: f"it is longer than {MAX_BODY:,} bytes: spread it over more numbers",
     502: "the office does not run",
     503: "the office had no memory or no disk for it; nothing changed",
 }
@@ -25,12 +22,10 @@ NOT_TAKEN = {
 
 @functools.cache
 def table() -> dict[str, dict[str, dict[str, str]]]:
-    """The faults by kind and number; an OfficeError where the table is not there."""
-    for place in PLACES:
-        if place.exists():
-            found: dict[str, dict[str, dict[str, str]]] = json.loads(place.read_text(encoding="utf-8"))
-            return found
-    raise OfficeError(f"the table of faults is in none of {', '.join(map(str, PLACES))}")
+    """The faults by kind and number; the page for staff has the same table."""
+    place = importlib.resources.files("society_office") / "faults.json"
+    found: dict[str, dict[str, dict[str, str]]] = json.loads(place.read_text(encoding="utf-8"))
+    return found
 
 
 def means(kind: str, number: int) -> str:

@@ -1,27 +1,37 @@
-"""Whether the office is well: answers in time, fronts that do not fall, free disk, a sound backup, days of the certificate."""
+"""Whether the office is well: answers, fronts, its file, the memory of a start, free disk, a sound backup, days of the certificate."""
 
 import contextlib
 import dataclasses
 import json
+import os
 import pathlib
+import re
 import shutil
 import socket
 import ssl
 import subprocess
-import tempfile
 import time
 import urllib.parse
 from collections.abc import Callable, Iterator
 from typing import Any
 
+from society_office.book_files import fault_of_files, log_of, offices, office_words
 from society_office.copy import open_copy
 from society_office.errors import OfficeError
 from society_office.numbering import as_sent, rank_of
-from society_office.program import Office, find_program
+from society_office.program import Office, audited, context_by
 
 GOOD, WARNING, WRONG = 0, 1, 2
 STATES = {GOOD: "good", WARNING: "look", WRONG: "WRONG"}
 HOUR, DAY = 3_600, 86_400
+# What a start needs of memory for each byte of the file, and for each credit and each work that pools look for (docs/SPEEDS.md).
+BY_BYTE, BY_CREDIT, BY_PLAYED = 1.1, 150, 400
+# Where a process stands in the groups that bound its memory: version 2, and version 1.
+GROUPS = pathlib.Path("/sys/fs/cgroup")
+# Where the office's unit stands, and then what changes it.
+UNITS = [pathlib.Path(it) for it in ("/lib/systemd/system", "/etc/systemd/system", "/run/systemd/system.control")]
+UNIT = "society.service"
+MEMORY_MAX = re.compile(r"^MemoryMax=(\d+)([KMGT]?)$", re.MULTILINE)
 # A sender of whom nothing has come, asked where none is known.
 NOBODY = "PB999999999"
 
@@ -42,6 +52,7 @@ class Limits:
     """From where on something is to be looked at, and from where on it is wrong."""
 
     seconds: float = 5
+    memory: float = 67
     disk: float = 10
     backup: float = 30
     certificate: float = 14
@@ -55,6 +66,7 @@ class Looked:
     user: str = ""
     password: str = ""
     authority: str | None = None
+    database: pathlib.Path | None = None
     disk: pathlib.Path | None = None
     backups: pathlib.Path | None = None
     state: pathlib.Path | None = None
@@ -97,20 +109,80 @@ def look_at_answer(it: Looked, limits: Limits, senders: dict[str, int]) -> Itera
         return
     finally:
         office.close()
-    yield compared(senders, fronts)
+    yield compared(senders, fronts, it.state)
     senders.update(fronts)
 
 
-def compared(known: dict[str, int], fronts: dict[str, int]) -> Finding:
-    """Whether a front is lower than it was."""
+def compared(known: dict[str, int], fronts: dict[str, int], state: pathlib.Path | None) -> Finding:
+    """Whether a front is lower than it was; where that is meant, as after a restore, what is kept has to be taken away."""
     lower = [
         f"{sender} had {as_sent(known[sender])} and has {as_sent(front)}"
         for sender, front in fronts.items()
         if front < known.get(sender, 0)
     ]
     if lower:
-        return Finding("fronts", WRONG, f"an older file is served: {'; '.join(lower)}", len(lower), "senders")
+        cure = f". Where that is meant, back up, and take {state} away" if state else ""
+        return Finding("fronts", WRONG, f"an older file is served: {'; '.join(lower)}{cure}", len(lower), "senders")
     return Finding("fronts", GOOD, f"no front of {len(known)} known senders is lower than it was", 0, "senders")
+
+
+def look_at_file(it: Looked) -> Finding:
+    """Whether the office that runs writes the file that the path names, and its log is whole."""
+    assert it.database is not None
+    if not it.database.exists():
+        return Finding("file", WRONG, f"there is no file {it.database}", 1, "faults")
+    fault = fault_of_files(it.database)
+    return Finding(
+        "file", WRONG if fault else GOOD, fault or f"{it.database} is what the office writes, and its log is whole", bool(fault), "faults"
+    )
+
+
+def memory_needed(it: Looked) -> int:
+    """The bytes of memory that the next start needs, by the file and its log, and by the credits and the works of the newest backup."""
+    assert it.database is not None
+    size = sum(path.stat().st_size for path in (it.database, log_of(it.database)) if path.exists())
+    needed = int(BY_BYTE * size)
+    if it.backups is not None:
+        with contextlib.suppress(OfficeError), open_copy(newest(it.backups)) as copy:
+            if copy.layout > 1:
+                needed += BY_CREDIT * copy.row("SELECT count(*) FROM credits")[0]
+                needed += BY_PLAYED * copy.row("SELECT count(DISTINCT isrc) FROM credits")[0]
+    return needed
+
+
+def bound_of_unit(database: pathlib.Path) -> int | None:
+    """The MemoryMax of the unit society.service, whether the office runs or not, where it serves this file; None without one."""
+    unit = next((it / UNIT for it in reversed(UNITS) if (it / UNIT).exists()), None)
+    if unit is None or f"{database}" not in (text := unit.read_text()):
+        return None
+    for folder in UNITS:
+        text += "".join("\n" + it.read_text() for it in sorted(folder.glob(f"{UNIT}.d/*.conf")))
+    found = MEMORY_MAX.findall(text)
+    return int(found[-1][0]) << 10 * " KMGT".index(found[-1][1] or " ") if found else None
+
+
+def memory_allowed(it: Looked) -> tuple[int, str]:
+    """The bytes of memory that the office may take, and what bounds them: the unit's MemoryMax, else the machine's memory."""
+    assert it.database is not None
+    allowed, why = os.sysconf("SC_PHYS_PAGES") * os.sysconf("SC_PAGE_SIZE"), "this machine has"
+    if (most := bound_of_unit(it.database)) is not None and most < allowed:
+        allowed, why = most, "the unit's MemoryMax is"
+    for process in offices(it.database):
+        for line in (process / "cgroup").read_text().splitlines():
+            _, kinds, group = line.split(":", 2)
+            bounds = GROUPS / group.lstrip("/") / "memory.max", GROUPS / "memory" / group.lstrip("/") / "memory.limit_in_bytes"
+            for bound in bounds if kinds in ("", "memory") else ():
+                if bound.exists() and (text := bound.read_text().strip()).isdigit() and int(text) < allowed:
+                    allowed, why = int(text), "the unit's MemoryMax is"
+    return allowed, why
+
+
+def look_at_memory(it: Looked, limits: Limits) -> Finding:
+    """How much of the memory that the office may take its next start needs: above that it never starts."""
+    needed, (allowed, why) = memory_needed(it), memory_allowed(it)
+    part = 100 * needed / allowed
+    state = GOOD if part < limits.memory else WARNING if part < 100 else WRONG
+    return Finding("memory", state, f"a start needs {needed / 1e6:,.0f} MB, and {why} {allowed / 1e6:,.0f} MB", part, "percent")
 
 
 def look_at_disk(it: Looked, limits: Limits) -> Finding:
@@ -138,19 +210,11 @@ def look_into_backup(it: Looked, kept: dict[str, Any]) -> Finding:
     path = newest(it.backups)
     mark = [path.name, path.stat().st_mtime, path.stat().st_size]
     if kept.get("mark") != mark:
-        kept.update(audited(it, path), mark=mark)
+        # (byte for byte: a copy that SQLite makes has another first page)
+        status, said = audited(lambda place: shutil.copyfile(path, place), office_words(path), it.program)
+        kept.update(status=status, said=said, mark=mark)
     state, words = GOOD if kept["status"] == 0 else WRONG, f"`society audit` says of {path.name}: {kept['said']}"
     return Finding("sound", state, words, kept["status"], "status")
-
-
-def audited(it: Looked, path: pathlib.Path) -> dict[str, Any]:
-    """What the program says of a backup, and its status; it reads a copy, so that nothing is left beside the backup."""
-    with open_copy(path) as copy, tempfile.TemporaryDirectory(prefix="society-office-") as folder:
-        place = pathlib.Path(folder) / path.name
-        copy.save(place)
-        words = [find_program(it.program), "audit", "--db", str(place), *copy.office_words]
-        done = subprocess.run(words, capture_output=True, check=False)
-    return {"status": done.returncode, "said": (done.stdout + done.stderr).decode(errors="replace").strip()}
 
 
 def look_at_certificate(it: Looked, limits: Limits) -> Finding:
@@ -161,7 +225,7 @@ def look_at_certificate(it: Looked, limits: Limits) -> Finding:
         ends = subprocess.run(words, capture_output=True, check=True, text=True).stdout.strip().partition("=")[2]
     else:
         parts = urllib.parse.urlsplit(f"//{it.certificate}")
-        context = ssl.create_default_context(cafile=it.authority)
+        context = context_by(it.authority)
         host, port = parts.hostname or "", parts.port or 443
         with socket.create_connection((host, port), timeout=10) as plain, context.wrap_socket(plain, server_hostname=host) as peer:
             ends = str((peer.getpeercert() or {})["notAfter"])
@@ -180,13 +244,21 @@ def kept_state(it: Looked) -> dict[str, Any]:
 
 
 def known_fronts(it: Looked, kept: dict[str, int]) -> dict[str, int]:
-    """The fronts known: those of the newest backup, and those seen last time, the greater of both."""
+    """The fronts known: those of the newest backup, and those seen last time, the greater of both.
+
+    A sender seen last time of whom neither of the two newest backups has anything is gone, as after a restore, and forgotten.
+    """
+    if it.backups is None:
+        return dict(kept)
     found: dict[str, int] = {}
-    if it.backups is not None:
-        with contextlib.suppress(OfficeError), open_copy(newest(it.backups)) as copy:
-            found = {line.sender: line.front for line in copy.lines()}
+    lately: set[str] = set()
+    for path in sorted(it.backups.glob("*.db"), key=lambda it: it.stat().st_mtime, reverse=True)[:2]:
+        with contextlib.suppress(OfficeError), open_copy(path) as copy:
+            fronts = {line.sender: line.front for line in copy.lines()}
+            found, lately = found or fronts, lately | fronts.keys()
     for sender, front in kept.items():
-        found[sender] = max(front, found.get(sender, 0))
+        if sender in lately or not lately:
+            found[sender] = max(front, found.get(sender, 0))
     return found
 
 
@@ -213,6 +285,9 @@ def look(it: Looked, limits: Limits) -> list[Finding]:
     found = tried("answer", lambda: list(look_at_answer(it, limits, fronts)))
     if any(it.name == "fronts" and it.state == GOOD for it in found):
         state["fronts"] = fronts
+    if it.database is not None:
+        found += tried("file", lambda: [look_at_file(it)])
+        found += tried("memory", lambda: [look_at_memory(it, limits)])
     if it.disk is not None:
         found += tried("disk", lambda: [look_at_disk(it, limits)])
     if it.backups is not None:

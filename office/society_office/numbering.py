@@ -9,6 +9,8 @@ YEARS = 1_000_000
 PER_YEAR = 10_000
 PLAIN = -1
 FILE_NAME = re.compile(r"CW(\d\d)(\d{4})[A-Z0-9]{2,3}_(\d{3})\.V2[12]", re.IGNORECASE | re.ASCII)
+# The code of a sender in the name of a file, where only its number counts.
+ANY_CODE = "CHK"
 SENT = re.compile(r"(\d\d)-(\d{4})", re.ASCII)
 
 
@@ -51,6 +53,13 @@ def segment_text(segment: int) -> str:
     return "plain" if segment == PLAIN else f"{segment:02d}"
 
 
+def path_of(rank: int, society: int) -> str:
+    """The path of a file behind its sender, under a number."""
+    if segment_of(rank) == PLAIN:
+        return f"transmissions/{rank}"
+    return f"files/CW{segment_of(rank):02d}{number_in(rank):04d}{ANY_CODE}_{society:03d}.V22"
+
+
 def counted(number: int, noun: str) -> str:
     """A number of things: `1 work`, `2 works`."""
     return f"{number:,} {noun}" if number == 1 else f"{number:,} {noun}s"
@@ -81,9 +90,9 @@ class Line:
 
     @property
     def way(self) -> list[int]:
-        """The segments to which the stated ends lead, from the plain one on."""
+        """The segments to which the stated ends lead, from the plain one on, also ahead of the front."""
         found = [PLAIN]
-        while found[-1] in self.ends:
+        while found[-1] in self.ends and found[-1] < self.ends[found[-1]][1]:
             found.append(self.ends[found[-1]][1])
         return found
 
@@ -107,16 +116,18 @@ class Line:
 
     @property
     def missing(self) -> list[int]:
-        """The numbers that have not come and for which others of their segment wait."""
-        last = self.way[-1]
-        here = [it for it in self.waiting if segment_of(it) == last]
-        if not here:
-            return []
-        return sorted(set(range(max(self.front, rank_in(last, 0)) + 1, here[-1])) - set(here))
+        """The numbers that have not come and for which others wait, also over the ends that are stated ahead."""
+        waiting = self.waiting
+        found: list[int] = []
+        for segment in self.way:
+            last = max((it for it in waiting if segment_of(it) == segment), default=rank_in(segment, 0))
+            if segment in self.ends and any(segment_of(it) > segment for it in waiting):
+                last = rank_in(segment, self.ends[segment][0])
+            found += sorted(set(range(max(self.front, rank_in(segment, 0)) + 1, last + 1)) - set(waiting))
+        return found
 
     @property
     def lacks_end(self) -> int | None:
-        """The segment whose end has to be stated, since files of a later year wait and none of its own is missing."""
+        """The segment whose end has to be stated, since files of a later year wait behind it."""
         last = self.way[-1]
-        later = [it for it in self.waiting if segment_of(it) > last]
-        return last if later and not self.missing else None
+        return last if any(segment_of(it) > last for it in self.waiting) else None

@@ -1,79 +1,36 @@
-"""Orders that close pools: one proposed out of a copy, and one rehearsed over a throw-away office."""
+"""Orders that close pools: one proposed out of a copy, with what it leaves out."""
 
-import contextlib
 import dataclasses
-import hashlib
 import json
-import pathlib
-import re
-from collections.abc import Iterable, Iterator
+from collections.abc import Callable, Iterator, Mapping, Sequence
 
-from society_office import faults
-from society_office.copy import Copy, open_copy
+from society_office.copy import Copy
 from society_office.errors import OfficeError
-from society_office.numbering import as_json
-from society_office.plays import rows
-from society_office.program import Answer, trial_of
+from society_office.numbering import as_json, rank_of
+from society_office.return_names import LAST_NUMBER, Entry, Return, are_listed, names_text, unmatched
+from society_office.stored_returns import Stored, corrected_pools, far_ones, same_plays, stored_returns
 
-Return = tuple[str, int]
 MOST_SENDERS, MOST_RETURNS = 200, 1_000
 LARGEST_AMOUNT = 1_000_000_000_000
 LAST_POOL = 99_999
-RETURN_WORDS = re.compile(r"([0-9A-Z]{1,20})(?:[/ ](\d{1,6})(?:-(\d{1,6}))?)?(?:\s.*)?", re.ASCII)
-CLOSED = (200, 201)
-
-
-@dataclasses.dataclass(frozen=True)
-class Chosen:
-    """Some returns: all of a reporter, or those of some numbers."""
-
-    reporter: str
-    first: int = 1
-    last: int = 999_999
-
-    def has(self, it: Return) -> bool:
-        """Whether a return is one of them."""
-        return it[0] == self.reporter and self.first <= it[1] <= self.last
-
-
-def chosen(words: str) -> Chosen:
-    """What `RADIO1`, `RADIO1/3`, `RADIO1/3-5` or `RADIO1 3` name; an OfficeError where it is none of these."""
-    found = RETURN_WORDS.fullmatch(words.strip())
-    if not found:
-        raise OfficeError(f"{words!r} names no returns: write RADIO1, RADIO1/3 or RADIO1/3-5")
-    if found[2] is None:
-        return Chosen(found[1])
-    return Chosen(found[1], int(found[2]), int(found[3] or found[2]))
-
-
-def void_returns(file: pathlib.Path | None) -> list[Chosen]:
-    """The returns of a list that are never to be named: a line for each, what follows `#` is passed over."""
-    if file is None:
-        return []
-    lines = (it.partition("#")[0].strip() for it in file.read_text(encoding="utf-8").splitlines())
-    return [chosen(it) for it in lines if it]
 
 
 @dataclasses.dataclass(frozen=True)
 class LeftOut:
-    """A return that the order does not name, and why."""
+    """Returns that the order does not name, and why."""
 
-    reporter: str
-    number: int
+    returns: tuple[Return, ...]
     why: str
 
 
 @dataclasses.dataclass(frozen=True)
-class Proposal:
-    """An order, what it leaves out, and the first pool number that is free."""
+class Order:
+    """An order that closes a pool."""
 
     kind: str
     amount: int
     cut: list[tuple[str, int]]
     returns: list[Return]
-    left_out: list[LeftOut]
-    remarks: list[str]
-    pool: int
 
     @property
     def json(self) -> str:
@@ -86,6 +43,32 @@ class Proposal:
         )
 
 
+@dataclasses.dataclass(frozen=True)
+class Proposal:
+    """An order, what it leaves out, what is to be said of it, and the first pool number that is free."""
+
+    order: Order
+    left_out: list[LeftOut]
+    remarks: list[str]
+    pool: int
+
+    @property
+    def json(self) -> str:
+        """The order as it is sent."""
+        return self.order.json
+
+
+@dataclasses.dataclass(frozen=True)
+class Wanted:
+    """What a proposed order is to name: these returns, or all where none are given; how far it counts files, where not all that are
+    applied; and whether it is to name no return or no file."""
+
+    returns: Sequence[Entry] = ()
+    cut: Sequence[str] = ()
+    no_returns: bool = False
+    no_files: bool = False
+
+
 def cut_of(copy: Copy) -> Iterator[tuple[str, int]]:
     """The last applied file of each sender that has one."""
     for line in copy.lines():
@@ -93,9 +76,23 @@ def cut_of(copy: Copy) -> Iterator[tuple[str, int]]:
             yield line.sender, applied[-1]
 
 
-def content_of(body: bytes) -> bytes:
-    """What two returns have in common that report the same plays, however they are written."""
-    return hashlib.sha256(repr(sorted(rows(body))).encode()).digest()
+def changed_cut(copy: Copy, cut: Sequence[tuple[str, int]], words: Sequence[str]) -> list[tuple[str, int]]:
+    """A cut with the changes `PB000000012=3`, `PB000000012=26-0002`, `PB000000012=0` (not counted) or `now`; an OfficeError for others."""
+    found = dict(cut)
+    for word in words:
+        sender, _, number = word.partition("=")
+        rank = rank_of(number)
+        if word == "now":
+            found = dict(cut_of(copy))
+        elif rank is None or copy.line(sender) is None:
+            raise OfficeError(
+                f"--cut: {word!r} is no sender with a number, as PB000000012=3, nor `now`; or nothing of this sender has come"
+            )
+        elif rank == 0:
+            found.pop(sender, None)
+        else:
+            found[sender] = rank
+    return sorted(found.items())
 
 
 def free_pool(copy: Copy) -> int:
@@ -108,39 +105,93 @@ def free_pool(copy: Copy) -> int:
     return least
 
 
-def sort_returns(copy: Copy, kind: str, wanted: list[Chosen], void: list[Chosen]) -> tuple[list[Return], list[LeftOut]]:
-    """The unpaid returns that an order of this kind names, and those that it leaves out."""
-    rights = copy.rights()
-    paid = {(reporter, number): pool for reporter, number, pool in copy.rows("SELECT reporter, number, pool FROM pool_returns")}
-    first: dict[bytes, Return] = {}
-    named, left, unpaid = [], [], []
-    for reporter, number, body in copy.rows("SELECT reporter, number, body FROM returns ORDER BY reporter, number"):
-        it, content = (reporter, number), content_of(bytes(body))
-        if it not in paid:
-            unpaid.append((it, content))
-        elif rights[paid[it]] == kind:
-            first.setdefault(content, it)
-    for it, content in unpaid:
-        if any(listed.has(it) for listed in void):
-            left.append(LeftOut(*it, "void"))
-        elif wanted and not any(listed.has(it) for listed in wanted):
-            left.append(LeftOut(*it, "not asked for"))
-        elif (other := first.setdefault(content, it)) != it:
-            how = f"paid by pool {paid[other]}" if other in paid else "named here"
-            left.append(LeftOut(*it, f"the same plays as {other[0]}/{other[1]}, {how}"))
+def why_not(it: Stored, void: Sequence[Entry]) -> str:
+    """Why a return can't be named by an order; the empty text where it can."""
+    if not it.is_play:
+        return "a return of the office itself, which has an order of its own"
+    if it.pool:
+        return f"paid by pool {it.pool}"
+    return "void" if are_listed(void, it.key) else ""
+
+
+# Why a return can't be named; the empty text where it can.
+Why = Callable[[Stored], str]
+
+
+def reasons(found: Sequence[Stored], why: Why) -> str:
+    """Why these returns can't be named, grouped by their reasons."""
+    by_reason: dict[str, list[Return]] = {}
+    for it in found:
+        by_reason.setdefault(why(it), []).append(it.key)
+    return "; ".join(f"{names_text(listed)}: {reason}" for reason, listed in by_reason.items())
+
+
+def wrong_entry(one: Entry, stored: Mapping[Return, Stored], why: Why) -> str:
+    """What is wrong with returns that were asked for; the empty text where nothing is."""
+    found = [it for key, it in stored.items() if one.has(key)]
+    barred = [it for it in found if why(it)]
+    if not found:
+        return f"{one.told}: no such return is stored"
+    if not one.ranges:
+        return f"{one.told}: none of its returns can be named: {reasons(barred, why)}" if len(barred) == len(found) else ""
+    numbers = {number for first, last in one.ranges for number in range(first, min(last, LAST_NUMBER) + 1)}
+    lacking = numbers - {it.number for it in found}
+    told = [f"{names_text((one.reporter, it) for it in lacking)}: not stored"] if lacking else []
+    told += [reasons(barred, why)] if barred else []
+    return f"{one.told}: " + "; ".join(told) if told else ""
+
+
+def refuse_wrong(wanted: Sequence[Entry], stored: Mapping[Return, Stored], why: Why) -> None:
+    """An OfficeError where a return was asked for that is unknown, or can't be named."""
+    if wrong := [told for one in wanted if (told := wrong_entry(one, stored, why))]:
+        raise OfficeError("; ".join(wrong))
+
+
+def void_remarks(void: Sequence[Entry], stored: Mapping[Return, Stored], corrected: set[int]) -> Iterator[str]:
+    """What is said of void returns: entries that name none that is stored, and those that a pool has paid and nothing has corrected."""
+    for one in unmatched(void, stored):
+        yield f"{one.told}: no such return is stored"
+    paid: dict[int, list[Return]] = {}
+    for it in stored.values():
+        if it.is_play and it.pool and it.pool not in corrected and are_listed(void, it.key):
+            paid.setdefault(it.pool, []).append(it.key)
+    for pool, listed in sorted(paid.items()):
+        yield f"pool {pool} has paid what is void: {names_text(listed)}; `society-office correct` tells how to put it right"
+
+
+def sort_returns(
+    stored: Mapping[Return, Stored], rights: Mapping[int, str], kind: str, wanted: Wanted, void: Sequence[Entry]
+) -> tuple[list[Stored], list[LeftOut], list[str]]:
+    """The unpaid returns that an order of this kind names, those that it leaves out, and what is said of those that it names."""
+    left: dict[str, list[Return]] = {}
+    asked = []
+    for it in stored.values():
+        if it.pool or not it.is_play:
+            continue
+        if are_listed(void, it.key):
+            left.setdefault("void", []).append(it.key)
+        elif wanted.no_returns or wanted.returns and not are_listed(wanted.returns, it.key):
+            left.setdefault("not asked for", []).append(it.key)
         else:
-            named.append(it)
-    return named, left
+            asked.append(it)
+    doubled = list(same_plays(asked, stored, rights, kind))
+    twice = {one.it.key: one for one in doubled if one.right in ("", kind)}
+    for one in twice.values():
+        left.setdefault(one.why, []).append(one.it.key)
+    remarks = [f"{one.it.name} has {one.why}: right only where it is to be paid in both" for one in doubled if one.it.key not in twice]
+    named = [it for it in asked if it.key not in twice]
+    return named, [LeftOut(tuple(listed), why) for why, listed in left.items()], remarks
 
 
-def propose(copy: Copy, amount: int, kind: str, wanted: list[Chosen], void: list[Chosen]) -> Proposal:
+def propose(copy: Copy, amount: int, kind: str, wanted: Wanted, void: Sequence[Entry]) -> Proposal:
     """An order over all files that are applied and all returns that no pool has paid; an OfficeError where it can be none."""
     copy.need_derived()
     if not 0 <= amount <= LARGEST_AMOUNT:
         raise OfficeError(f"an amount is 0 to {LARGEST_AMOUNT:,} units")
-    cut = list(cut_of(copy))
-    named, left = sort_returns(copy, kind, wanted, void)
-    remarks = []
+    stored = stored_returns(copy)
+    refuse_wrong(wanted.returns, stored, lambda it: why_not(it, void))
+    cut = [] if wanted.no_files else changed_cut(copy, list(cut_of(copy)), wanted.cut)
+    named, left, remarks = sort_returns(stored, copy.rights(), kind, wanted, void)
     if len(cut) > MOST_SENDERS:
         raise OfficeError(
             f"{len(cut):,} senders have files, and a cut has {MOST_SENDERS} at most: write the order by hand, in several pools"
@@ -150,38 +201,17 @@ def propose(copy: Copy, amount: int, kind: str, wanted: list[Chosen], void: list
             f"{len(named) - MOST_RETURNS:,} more returns are unpaid: an order names {MOST_RETURNS:,} at most, so close a further pool"
         )
         named = named[:MOST_RETURNS]
-    if not named:
-        remarks.append("it names no return, so all of it would go to UNCLAIMED")
+    remarks += far_ones(named, stored, void)
+    remarks += void_remarks(void, stored, corrected_pools(stored))
     remarks += [f"{it.sender} has files that wait, which this order does not count" for it in copy.lines() if it.waiting]
-    return Proposal(kind, amount, cut, named, left, remarks, free_pool(copy))
+    return Proposal(Order(kind, amount, cut, [it.key for it in named]), left, remarks, free_pool(copy))
 
 
-@dataclasses.dataclass(frozen=True)
-class Rehearsal:
-    """What the program answered to an order, and where it was taken the office as it would be then."""
-
-    pool: int
-    answer: Answer
-    refusal: str
-    copy: Copy | None
-
-
-@contextlib.contextmanager
-def rehearse(program: str, copy: Copy, order: bytes, pool: int | None) -> Iterator[Rehearsal]:
-    """Sends an order to a throw-away office over the copy; what it made of it can be read while the `with` lasts."""
-    copy.need_derived()
-    number = pool or free_pool(copy)
-    with trial_of(program, copy) as trial:
-        answer = trial.office.ask("PUT", f"/v1/pools/{number}", order)
-        trial.end()
-        if answer.status not in CLOSED:
-            yield Rehearsal(number, answer, faults.refusal_text("order", answer), None)
-        else:
-            with open_copy(trial.database) as then:
-                yield Rehearsal(number, answer, "", then)
-
-
-def credited(copy: Copy, pool: int) -> Iterable[tuple[str, int]]:
-    """What a pool credits to each account, the greatest first."""
-    question = "SELECT account, sum(units) AS units FROM credits WHERE pool = ? GROUP BY account ORDER BY units DESC, account"
-    return copy.rows(question, pool)
+def refuse_empty(it: Order, wanted: Wanted) -> None:
+    """An OfficeError where an order would throw its amount away and that was not asked for."""
+    if not it.returns and not wanted.no_returns:
+        raise OfficeError(
+            "no return can be named, so all of the amount would go to UNCLAIMED: no order was written (--no-returns asks for such a one)"
+        )
+    if not it.cut and not wanted.no_files:
+        raise OfficeError("no file is applied, so all of the amount would go to UNCLAIMED: no order was written (--no-files asks for it)")

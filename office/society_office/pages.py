@@ -4,7 +4,8 @@ import contextlib
 import datetime
 import functools
 import pathlib
-from collections.abc import Iterable, Iterator
+import shutil
+from collections.abc import Callable, Iterable, Iterator
 from typing import Any, TextIO
 
 import jinja2
@@ -29,8 +30,8 @@ def percent(part: int, whole: int) -> str:
 
 
 def moment(seconds: float) -> str:
-    """A time of a file as people write it."""
-    return datetime.datetime.fromtimestamp(seconds).strftime("%Y-%m-%d %H:%M")
+    """A time of a file as people write it, with its zone."""
+    return datetime.datetime.fromtimestamp(seconds).astimezone().strftime("%Y-%m-%d %H:%M %Z")
 
 
 def begun(words: str) -> str:
@@ -104,6 +105,33 @@ def write_bytes(target: pathlib.Path, content: bytes) -> None:
     except OSError as error:
         draft.unlink(missing_ok=True)
         raise OfficeError(f"{target} could not be written: {error.strerror}") from error
+
+
+@contextlib.contextmanager
+def new_folder(target: pathlib.Path, is_own: Callable[[str], bool]) -> Iterator[pathlib.Path]:
+    """A folder to write files into, which takes the place of another one whole at the end, or not at all.
+
+    An OfficeError where it can't, or where what is there has a file that is not one of its own, by its name."""
+    target = target.resolve()
+    draft, old = (target.with_name(f".{target.name}.{it}") for it in ("new", "old"))
+    if target.is_dir():
+        for it in sorted(target.rglob("*")):
+            if it.is_file() and not is_own(it.relative_to(target).as_posix()):
+                raise OfficeError(f"{it} is no page, and a folder of pages is replaced as a whole: name another folder, or take it away")
+    try:
+        for left in (draft, old):
+            shutil.rmtree(left, ignore_errors=True)
+        draft.mkdir(parents=True)
+        yield draft
+        if target.exists():
+            shutil.copymode(target, draft)
+            target.replace(old)
+        draft.replace(target)
+    except OSError as error:
+        raise OfficeError(f"{target} could not be written: {error.strerror}") from error
+    finally:
+        for left in (draft, old):
+            shutil.rmtree(left, ignore_errors=True)
 
 
 def write_all(folder: pathlib.Path, files: Iterable[tuple[str, str]]) -> int:

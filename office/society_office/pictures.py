@@ -5,7 +5,7 @@ from collections.abc import Iterable, Sequence
 
 import markupsafe
 
-from society_office.numbering import PLAIN, Line, as_sent, number_in, rank_in, segment_of
+from society_office.numbering import Line, as_sent, number_in, rank_in, segment_of
 
 # What each part of a pool and each state of a file is, and its colour; the colours differ in lightness too, for print in grey.
 PARTS = {"paid": "#2f6f4f", "share": "#d9b13b", "conflict": "#b3541e", "nobody": "#c3c9d4"}
@@ -74,13 +74,13 @@ def segments_of(line: Line) -> list[tuple[int, int]]:
 
 def runs_of(line: Line) -> list[list[Run]]:
     """The runs of each segment of a sender's line."""
-    applied, waiting, skipped = set(line.applied), set(line.waiting), set(line.skipped)
+    way, applied, waiting, skipped = line.way, set(line.applied), set(line.waiting), set(line.skipped)
     found: list[list[Run]] = []
     for segment, last in segments_of(line):
         runs: list[Run] = []
         for rank in range(rank_in(segment, 1), rank_in(segment, last) + 1):
             state = "applied" if rank in applied else "waits" if rank in waiting else "skipped" if rank in skipped else "missing"
-            if state == "missing" and segment not in line.way and segment != PLAIN:
+            if state == "missing" and segment not in way and segment < way[-1]:
                 state = "skipped"
             if runs and runs[-1].state == state:
                 runs[-1] = Run(state, runs[-1].first, rank)

@@ -13,14 +13,14 @@ import ssl
 import subprocess
 import tempfile
 import urllib.parse
-from collections.abc import Iterator
+from collections.abc import Callable, Iterator
 from typing import Any
 
 from society_office.copy import Copy, open_copy
 from society_office.errors import OfficeError
+from society_office.soundness import BROKEN, CURE, need_sound
 
 CHECKOUT = pathlib.Path(__file__).resolve().parent.parent.parent
-LARGEST_BODY = 1_048_576
 # Seconds that a throw-away office may take to listen, and to answer.
 START, ANSWER = 600, 600
 MANY = 1_000_000
@@ -39,12 +39,9 @@ def find_program(named: str | None = None) -> str:
     """The program: the one that is named, else `society` on the PATH, else the one that bin/society of the checkout runs.
 
     An OfficeError where there is none."""
-    for candidate in (
-        named,
-        os.environ.get("SOCIETY_PROGRAM"),
-        shutil.which("society"),
-        program_of_the_checkout(),
-    ):
+    # (each is looked for only where there is none before it: asking the checkout takes a third of a second)
+    looked_for = (lambda: named, lambda: os.environ.get("SOCIETY_PROGRAM"), lambda: shutil.which("society"), program_of_the_checkout)
+    for candidate in (look() for look in looked_for):
         if candidate and os.access(candidate, os.X_OK) and not os.path.isdir(candidate):
             return os.path.abspath(candidate)
         if candidate and candidate == named:
@@ -75,33 +72,55 @@ class Answer:
             return {}
 
 
+def port_of(parts: urllib.parse.SplitResult) -> int | None:
+    """The port of an address; None where what stands there is none."""
+    try:
+        return parts.port or (443 if parts.scheme == "https" else 80)
+    except ValueError:
+        return None
+
+
+def context_by(authority: str | None) -> ssl.SSLContext:
+    """What trusts the certificate of a file, or the public ones; an OfficeError where the file has none."""
+    try:
+        return ssl.create_default_context(cafile=authority)
+    except OSError as error:
+        raise OfficeError(f"{authority} is no certificate that can be read: {error.strerror or error}") from error
+
+
 class Office:
     """An office that is asked over HTTP, over one connection that is kept as long as the office keeps it."""
 
     def __init__(self, address: str, user: str = "", password: str = "", authority: str | None = None, seconds: float = ANSWER) -> None:
         """An office at http://host:port or https://host:port; an OfficeError where the address is none."""
         parts = urllib.parse.urlsplit(address)
-        if parts.scheme not in ("http", "https") or not parts.hostname:
+        if parts.scheme not in ("http", "https") or not parts.hostname or parts.query or parts.fragment or port_of(parts) is None:
             raise OfficeError(f"{address} is no address of an office: write http://127.0.0.1:8080 or https://office.example:8443")
-        self.address = address
+        self.address, self.path = address, parts.path.rstrip("/")
         self.headers = {"Authorization": "Basic " + base64.b64encode(f"{user}:{password}".encode()).decode()} if user else {}
         if parts.scheme == "https":
-            context = ssl.create_default_context(cafile=authority)
+            context = context_by(authority)
             self.connection: http.client.HTTPConnection = http.client.HTTPSConnection(
-                parts.hostname, parts.port or 443, timeout=seconds, context=context
+                parts.hostname, port_of(parts), timeout=seconds, context=context
             )
         else:
-            self.connection = http.client.HTTPConnection(parts.hostname, parts.port or 80, timeout=seconds)
+            self.connection = http.client.HTTPConnection(parts.hostname, port_of(parts), timeout=seconds)
 
     def ask(self, method: str, path: str, body: bytes | None = None) -> Answer:
         """The answer to a request; an OfficeError where none came."""
         try:
-            self.connection.request(method, path, body=body, headers=self.headers)
+            self.connection.request(method, self.path + path, body=body, headers=self.headers)
             answer = self.connection.getresponse()
             return Answer(answer.status, answer.read())
-        except (OSError, http.client.HTTPException) as error:
+        except (OSError, ValueError, http.client.HTTPException) as error:
             self.connection.close()
             raise OfficeError(f"no answer from {self.address}: {error}") from error
+
+    def break_off(self) -> None:
+        """Has the request that another thread waits for end without an answer."""
+        if (it := self.connection.sock) is not None:
+            with contextlib.suppress(OSError):
+                it.shutdown(socket.SHUT_RDWR)
 
     def close(self) -> None:
         """Ends the connection, so that others are served."""
@@ -171,7 +190,9 @@ def open_whole(path: pathlib.Path) -> Iterator[Copy]:
     with open_copy(path) as copy:
         if copy.layout > 1 or not has_program():
             copy.need_derived()
-            yield copy
+            with told_of(copy):
+                need_sound(copy)
+                yield copy
             return
         with trial_of(find_program(), copy) as trial:
             trial.end()
@@ -179,6 +200,29 @@ def open_whole(path: pathlib.Path) -> Iterator[Copy]:
                 taken_over.path, taken_over.taken = path, copy.taken
                 taken_over.note = f"{path} is of layout 1: a throw-away copy of it was taken over by the program"
                 yield taken_over
+
+
+@contextlib.contextmanager
+def told_of(copy: Copy) -> Iterator[None]:
+    """Turns what reading an unsound copy ends with into an OfficeError, which says what an audit says of it."""
+    try:
+        yield
+    except BROKEN as error:
+        need_sound(copy, sums=True)
+        said = CURE
+        with contextlib.suppress(OfficeError):
+            status, told = audited(copy.save, copy.office_words)
+            said = f"`society audit` says: {told}" if status else "`society audit` finds it sound, so this is a fault of this command"
+        raise OfficeError(f"{copy.path} can't be read ({type(error).__name__}: {error}): {said}") from error
+
+
+def audited(save: Callable[[pathlib.Path], object], words: list[str], program: str | None = None) -> tuple[int, str]:
+    """The status with which the program audits what `save` writes, and what it says; an OfficeError where there is no program."""
+    with tempfile.TemporaryDirectory(prefix="society-office-") as folder:
+        place = pathlib.Path(folder) / "copy.db"
+        save(place)
+        done = subprocess.run([find_program(program), "audit", "--db", str(place), *words], capture_output=True, check=False)
+    return done.returncode, (done.stdout + done.stderr).decode(errors="replace").strip()
 
 
 def has_program() -> bool:

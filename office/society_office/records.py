@@ -5,20 +5,15 @@ import re
 from collections.abc import Iterable, Iterator, Sequence
 
 from society_office.copy import Copy
+from society_office.fields import IPI_DIGITS, ISRC, PARTIES, RECORD_TYPE, SENDER_NAME, TITLE, WORK_NUMBER, WORKS
 
-GROUP = re.compile(rb"\nGRH(NWR|REV)[^\n]*")
+GROUP = re.compile(rb"\nGRH(%s)[^\n]*" % b"|".join(WORKS))
 GROUP_END = b"\nGRT"
-STARTS = {b"NWR": re.compile(rb"\nNWR"), b"REV": re.compile(rb"\nREV")}
-PARTY = re.compile(rb"\n(SPU|OPU|SWR|OWR)([^\r\n]*)")
-RECORDING = re.compile(rb"\nREC[^\n]{246}([A-Z0-9]{12})")
-PUBLISHERS = (b"SPU", b"OPU")
+STARTS = {kind: re.compile(rb"\n%s" % kind) for kind in WORKS}
+PARTY = re.compile(rb"\n(%s)([^\r\n]*)" % b"|".join(PARTIES))
+# (what stands between the record type and the ISRC is of any bytes)
+RECORDING = re.compile(rb"\nREC[^\n]{%d}([A-Z0-9]{12})" % (ISRC.first - RECORD_TYPE.last - 1))
 UNCLAIMED = "UNCLAIMED"
-IPI_DIGITS = 11
-
-
-def field(line: bytes, first: int, last: int) -> bytes:
-    """A field of a line, filled with blanks where the line ends early."""
-    return line[first - 1 : last].ljust(last - first + 1)
 
 
 def text(raw: bytes) -> str:
@@ -61,8 +56,8 @@ class Transaction:
 
     @property
     def work(self) -> str:
-        """The submitter's work number."""
-        return text(self.first.rstrip(b"\r")[81:95])
+        """The submitter's work number, as it is registered: blanks before it are of it."""
+        return number_of(self.first)
 
     @property
     def isrcs(self) -> list[str]:
@@ -86,12 +81,11 @@ def account_of(sender: str, ipi: bytes, number: bytes) -> str:
 
 def party_of(kind: bytes, line: bytes, sender: str) -> Party:
     """The party that a line of SPU, OPU, SWR or OWR is."""
-    if kind in PUBLISHERS:
-        number, ipi, name, side = line[21:30], line[87:98], text(line[30:75]), "publisher"
-    else:
-        number, ipi, side = line[19:28], line[115:126], "writer"
-        name = " ".join(filter(None, (text(line[73:103]), text(line[28:73]))))
-    return Party(account_of(sender, ipi, number), name, side, text(number))
+    places = PARTIES[kind]
+    number, name = places.number.of(line), text(places.name.of(line))
+    if places.first_name:
+        name = " ".join(filter(None, (text(places.first_name.of(line)), name)))
+    return Party(account_of(sender, places.ipi.of(line), number), name, places.side, text(number))
 
 
 def groups(body: bytes) -> Iterator[tuple[str, list[int], int]]:
@@ -117,7 +111,12 @@ def titles(body: bytes) -> list[str]:
 
 def title_of(first: bytes) -> str:
     """The title in the first line of a registration or revision, as people read it."""
-    return text(first.rstrip(b"\r")[19:79])
+    return text(TITLE.of(first.rstrip(b"\r")))
+
+
+def number_of(first: bytes) -> str:
+    """The work number in the first line of a registration or revision, as it is registered."""
+    return WORK_NUMBER.of(first.rstrip(b"\r")).rstrip(b" ").decode("latin-1")
 
 
 class Works:
@@ -157,6 +156,6 @@ class Works:
 
 def sender_names(copy: Copy) -> dict[str, str]:
     """The name that each sender gives itself in the header of its last file."""
-    question = """SELECT sender, CAST(substr(body, 1, 59) AS BLOB) FROM transmissions
+    question = """SELECT sender, CAST(substr(body, 1, ?) AS BLOB) FROM transmissions
       JOIN (SELECT sender, max(number) AS number FROM transmissions GROUP BY sender) USING (sender, number)"""
-    return {sender: text(bytes(head).partition(b"\n")[0][14:59]) for sender, head in copy.rows(question)}
+    return {sender: text(SENDER_NAME.of(bytes(head).partition(b"\n")[0])) for sender, head in copy.rows(question, SENDER_NAME.last)}

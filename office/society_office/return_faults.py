@@ -1,19 +1,14 @@
 """Every fault of a return of plays, by a reading of our own, and what spreadsheets do to such a file."""
 
-import csv
-import io
 import re
 from collections.abc import Iterator
 
-from society_office.cwr_faults import Fault
-from society_office.plays import BOM
+from society_office.plays import BOM, HEADER, MOST_PLAYS, MOST_ROWS, MOST_SECONDS, ReturnFault, records
 from society_office.records import text
+from society_office.work_faults import Fault
 
-HEADER = ["isrc", "plays", "seconds"]
-MOST_ROWS = 10_000
 ISRC = re.compile(r"[A-Z]{2}(-?)[A-Z0-9]{3}\1[0-9]{2}\1[0-9]{5}", re.IGNORECASE | re.ASCII)
 PLAYS, SECONDS = re.compile(r"[0-9]{1,7}", re.ASCII), re.compile(r"[0-9]{1,5}", re.ASCII)
-MOST_PLAYS, MOST_SECONDS = 1_000_000, 10_000
 # What a number looks like after a spreadsheet, and what to do.
 NUMBERS = (
     (re.compile(r"\d+:\d\d(:\d\d)?"), "a time: write it in seconds, 3:00 as 180"),
@@ -35,14 +30,14 @@ WORKS_NAME, WORKS_LINE = re.compile(r"\.(cwr|v2[12])$", re.IGNORECASE), re.compi
 CELL_ERRORS = ("#N/A", "#REF!", "#VALUE!", "#NAME?", "#DIV/0!")
 
 
-def records(body: bytes) -> Iterator[list[str]]:
-    """The records of a CSV; lines without a byte are none."""
-    yield from (it for it in csv.reader(io.StringIO(body.removeprefix(BOM).decode("latin-1"), newline="")) if it)
+def first_line(body: bytes) -> bytes:
+    """The first line of a return that has a byte."""
+    return body.removeprefix(BOM).lstrip(b"\r\n").partition(b"\n")[0]
 
 
 def header_hint(body: bytes, first: list[str]) -> str:
     """What was done to a header that is not the right one."""
-    line = body.removeprefix(BOM).partition(b"\n")[0].strip()
+    line = first_line(body).strip()
     if body[:2] in (b"\xff\xfe", b"\xfe\xff"):
         return "this is UTF-16 ('Unicode text'): save it as 'CSV UTF-8 (comma delimited)'"
     if body[:2] == b"PK":
@@ -99,18 +94,18 @@ def row_faults(row: int, cells: list[str]) -> Iterator[Fault]:
         return Fault("return", number, row, "row", field, text(found.encode("latin-1")), hint)
 
     if len(cells) != len(HEADER):
-        yield fault(2, f"{len(cells)} fields", ",".join(cells)[:60], row_hint(cells))
+        yield fault(ReturnFault.FIELDS, f"{len(cells)} fields", ",".join(cells)[:60], row_hint(cells))
         return
     isrc, plays, seconds = cells
     if not any(cells):
-        yield fault(3, "isrc", "", "an empty row of the spreadsheet: delete it")
+        yield fault(ReturnFault.ISRC, "isrc", "", "an empty row of the spreadsheet: delete it")
         return
     if not ISRC.fullmatch(isrc):
-        yield fault(3, "isrc", isrc, isrc_hint(isrc))
+        yield fault(ReturnFault.ISRC, "isrc", isrc, isrc_hint(isrc))
     if not (PLAYS.fullmatch(plays) and 1 <= int(plays) <= MOST_PLAYS):
-        yield fault(4, "plays", plays, number_hint(plays))
+        yield fault(ReturnFault.PLAYS, "plays", plays, number_hint(plays))
     if not (SECONDS.fullmatch(seconds) and 1 <= int(seconds) <= MOST_SECONDS):
-        yield fault(5, "seconds", seconds, number_hint(seconds))
+        yield fault(ReturnFault.SECONDS, "seconds", seconds, number_hint(seconds))
 
 
 def return_faults(body: bytes) -> list[Fault]:
@@ -121,18 +116,18 @@ def return_faults(body: bytes) -> list[Fault]:
         return [
             Fault(
                 "return",
-                1,
+                ReturnFault.HEADER,
                 1,
                 "row",
                 "header",
-                text(body.removeprefix(BOM).partition(b"\n")[0][:60]),
+                text(first_line(body)[:60]),
                 header_hint(body, header or []),
             )
         ]
     found: list[Fault] = []
     for row, cells in enumerate(listed, 2):
         if row - 1 > MOST_ROWS:
-            found.append(Fault("return", 6, row, "row", "rows of data", "", f"more than {MOST_ROWS:,}"))
+            found.append(Fault("return", ReturnFault.ROWS, row, "row", "rows of data", "", f"more than {MOST_ROWS:,}"))
             break
         found += row_faults(row, cells)
     return found

@@ -5,17 +5,19 @@ import dataclasses
 import heapq
 import io
 import pathlib
+import re
 from collections.abc import Callable, Iterable, Iterator, Sequence
 from typing import Any
 
 from society_office import faults, pages, pictures
 from society_office.copy import Copy
 from society_office.numbering import Line, as_sent, ranges, segment_text
-from society_office.orders import Chosen
 from society_office.parties import names_of, parties
 from society_office.plain_text import plain
 from society_office.plays import points
+from society_office.pool_names import PoolNames
 from society_office.records import UNCLAIMED, sender_names
+from society_office.return_names import Entry, are_listed
 from society_office.statements import folder_of
 from society_office.unclaimed import BOOKING, CURES, Cause, Found, Item, Unclaimed
 from society_office.why import Rejected, state_lines, story
@@ -23,6 +25,8 @@ from society_office.why import Rejected, state_lines, story
 # What a page shows at most: unclaimed recordings of a pool, accounts of a pool, rejected works of a group, rows of a page of balances.
 MOST_UNCLAIMED, MOST_ACCOUNTS, MOST_REJECTED, PER_PAGE = 40, 40, 50, 500
 PART_OF = {Cause.SHARE: "share", Cause.CONFLICT: "conflict"}
+# The names of pages.
+PAGE = re.compile(r"office\.css|(balances|rejected)\.csv|[a-z]+(-[0-9]+)?\.html|(senders|pools)/[0-9A-Z]+\.html|\..*\.new")
 MENU = [
     ("index.html", "Overview"),
     ("senders.html", "Senders"),
@@ -95,10 +99,10 @@ class Station:
 class Site:
     """What the pages show, read out of one copy."""
 
-    def __init__(self, copy: Copy, void: Sequence[Chosen], progress: Callable[[str], None]) -> None:
+    def __init__(self, copy: Copy, void: Sequence[Entry], pool_names: PoolNames, progress: Callable[[str], None]) -> None:
         """Reads what several pages need; `progress` is told what is done."""
         copy.need_derived()
-        self.copy, self.void, self.progress = copy, void, progress
+        self.copy, self.void, self.pool_names, self.progress = copy, void, pool_names, progress
         progress("names")
         self.names = names_of(parties(copy))
         self.senders = sender_names(copy)
@@ -136,7 +140,7 @@ class Site:
         found: dict[str, Station] = {}
         for reporter, number, body in self.copy.rows("SELECT reporter, number, body FROM returns ORDER BY reporter, number"):
             listed = points(bytes(body))
-            is_void = any(it.has((reporter, number)) for it in self.void)
+            is_void = are_listed(self.void, (reporter, number))
             state = f"paid by pool {paid[reporter, number]}" if (reporter, number) in paid else "void" if is_void else "unpaid"
             found.setdefault(reporter, Station(reporter)).returns.append((number, len(listed), sum(listed.values()), state))
         return list(found.values())
@@ -154,7 +158,8 @@ class Site:
     def page(self, template: str, own: str, **values: Any) -> str:
         """A page with what all have."""
         depth = "../" * own.count("/")
-        return pages.page(template, office=self.copy.name, taken=self.copy.taken, menu=MENU, own=own, top=depth, name=self.name, **values)
+        values |= {"office": self.copy.name, "taken": self.copy.taken, "menu": MENU, "own": own, "top": depth}
+        return pages.page(template, name=self.name, pool_names=self.pool_names, **values)
 
     def files(self) -> Iterator[tuple[str, str]]:
         """All files of the site: their names and texts."""
@@ -255,8 +260,9 @@ class Site:
 
 def ranges_of(line: Line) -> dict[str, str]:
     """What waits, what is missing and what is never applied of a sender, as ranges."""
-    lacking = f"the end of {segment_text(line.lacks_end)}" if line.lacks_end is not None else ranges(line.missing)
-    return {"waits": ranges(line.waiting), "missing": lacking, "skipped": ranges(line.skipped)}
+    end = f"the end of {segment_text(line.lacks_end)}" if line.lacks_end is not None else ""
+    missing = ", ".join(filter(None, (ranges(line.missing), end)))
+    return {"waits": ranges(line.waiting), "missing": missing, "skipped": ranges(line.skipped)}
 
 
 def as_csv(header: list[str], rows: Iterable[Sequence[object]]) -> str:
@@ -268,18 +274,7 @@ def as_csv(header: list[str], rows: Iterable[Sequence[object]]) -> str:
     return out.getvalue()
 
 
-def write_site(copy: Copy, into: pathlib.Path, void: Sequence[Chosen], progress: Callable[[str], None]) -> int:
-    """Writes all pages into a folder, and takes away pages of senders and pools that are no more; answers how many files it wrote."""
-    written: list[str] = []
-
-    def noted() -> Iterator[tuple[str, str]]:
-        for name, text in Site(copy, void, progress).files():
-            written.append(name)
-            yield name, text
-
-    count = pages.write_all(into, noted())
-    stale = [*into.glob("senders/*.html"), *into.glob("pools/*.html"), *into.glob("balances-*.html")]
-    for path in stale:
-        if str(path.relative_to(into)) not in written:
-            path.unlink()
-    return count
+def write_site(copy: Copy, into: pathlib.Path, void: Sequence[Entry], pool_names: PoolNames, progress: Callable[[str], None]) -> int:
+    """Writes all pages into a folder, in the place of all that were there; answers how many files it wrote."""
+    with pages.new_folder(into, lambda name: PAGE.fullmatch(name) is not None) as folder:
+        return pages.write_all(folder, Site(copy, void, pool_names, progress).files())

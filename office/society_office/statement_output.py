@@ -10,6 +10,7 @@ from rich.table import Table
 from society_office import pages
 from society_office.copy import Copy
 from society_office.parties import names_of, parties
+from society_office.pool_names import PoolNames
 from society_office.statements import Statement, Statements, Sum, as_csv, folder_of
 from society_office.terminal import console, counting, say, table
 
@@ -39,14 +40,27 @@ def verdict(found: Statement) -> str:
     )
 
 
-def tables_of(found: Statement) -> Iterator[Table]:
+def pool_table(found: Statement, names: PoolNames) -> Table:
+    """The sums by pool, with the names and periods of pools where one has them."""
+    columns = ["pool", "right", *(["name", "period"] if names else []), "units"]
+    rows = ((*it.words, *(name_and_period(names, it.words[0]) if names else ()), it.units) for it in found.by_pool)
+    return table(columns, rows, ["pool", "units"], "By pool")
+
+
+def name_and_period(names: PoolNames, pool: str) -> tuple[str, str]:
+    """The name and the period of a pool, empty where it has none."""
+    name = names.get(int(pool))
+    return (name.name, name.period) if name else ("", "")
+
+
+def tables_of(found: Statement, names: PoolNames) -> Iterator[Table]:
     """It as tables: every credit, then the sums; of more credits than are held, the greatest sums alone."""
     by_account = found.is_of_publisher
     columns = ["pool", "right", "ISRC", "title", "work", "publisher", *(["account"] if by_account else []), "units"]
     rows = ((str(it.pool), *it[1:6], *([it.account] if by_account else []), it.units) for it in found.credits)
     if found.is_held:
         yield table(columns, rows, ["pool", "units"])
-    yield table(["pool", "right", "units"], ((*it.words, it.units) for it in found.by_pool), ["pool", "units"], "By pool")
+    yield pool_table(found, names)
     works = ((*it.words, it.units) for it in shown(found, found.by_work))
     yield table(["title", "work", "publisher", "units"], works, ["units"], f"By work{of_all(found, found.by_work)}")
     if by_account:
@@ -65,12 +79,12 @@ def of_all(found: Statement, sums: list[Sum]) -> str:
     return f", the greatest {MOST_SUMS:,} of {len(sums):,}" if left else ""
 
 
-def show(found: Statement, out: Console) -> None:
+def show(found: Statement, names: PoolNames, out: Console) -> None:
     """Prints it."""
     out.print(heading(found))
     if not found.is_held:
         out.print(f"\n{found.sums.count:,} credits, too many for a table: `--format csv` has every one of them")
-    for listed in tables_of(found) if found.sums.count else ():
+    for listed in tables_of(found, names) if found.sums.count else ():
         out.print()
         out.print(listed)
     if found.sums.count:
@@ -78,11 +92,12 @@ def show(found: Statement, out: Console) -> None:
     out.print(verdict(found))
 
 
-def as_page(found: Statement, taken: float, beside: str = "") -> str:
+def as_page(found: Statement, names: PoolNames, taken: float, beside: str = "") -> str:
     """It as a page, with no more than so many lines; `beside` is the name of the CSV file that stands beside it."""
     return pages.page(
         "statement.html",
         it=found,
+        pool_names=names,
         lines=found.credits[:MOST_LINES],
         works=found.by_work[:MOST_LINES],
         beside=beside,
@@ -92,16 +107,16 @@ def as_page(found: Statement, taken: float, beside: str = "") -> str:
     )
 
 
-def write(found: Statement, form: str, output: pathlib.Path | None, taken: float) -> None:
+def write(found: Statement, names: PoolNames, form: str, output: pathlib.Path | None, taken: float) -> None:
     """Writes it in a form, to a file or to standard output."""
     if form == "table" and output is None:
-        show(found, console())
+        show(found, names, console())
     elif output is None:
-        sys.stdout.write(as_page(found, taken))
+        sys.stdout.write(as_page(found, names, taken))
     elif form == "pdf":
-        pages.write_pdf(as_page(found, taken), output)
+        pages.write_pdf(as_page(found, names, taken), output)
     else:
-        pages.write_text(output, as_page(found, taken) if form == "html" else as_table(found))
+        pages.write_text(output, as_page(found, names, taken) if form == "html" else as_table(found, names))
 
 
 def write_csv(statements: Statements, key: str, since: int, output: pathlib.Path | None) -> Statement:
@@ -112,31 +127,31 @@ def write_csv(statements: Statements, key: str, since: int, output: pathlib.Path
         return statements.write_csv(key, since, file)
 
 
-def as_table(found: Statement) -> str:
+def as_table(found: Statement, names: PoolNames) -> str:
     """It as the tables that are printed."""
     out = console()
     with out.capture() as captured:
-        show(found, out)
+        show(found, names, out)
     return captured.get()
 
 
-def files_of(found: Statement, taken: float) -> Iterator[tuple[str, str]]:
+def files_of(found: Statement, names: PoolNames, taken: float) -> Iterator[tuple[str, str]]:
     """The files of its folder."""
     folder = folder_of(found.key)
-    yield f"{folder}/index.html", as_page(found, taken, CSV_NAME)
+    yield f"{folder}/index.html", as_page(found, names, taken, CSV_NAME)
     yield f"{folder}/{CSV_NAME}", as_csv(found.credits)
 
 
-def write_each(copy: Copy, since: int, into: pathlib.Path, pdf: bool) -> int:
+def write_each(copy: Copy, names: PoolNames, since: int, into: pathlib.Path, pdf: bool) -> int:
     """Writes the statements of all accounts and publishers; the status is 1 where one differs from its balance."""
     statements = Statements(copy)
-    names = names_of(parties(copy))
+    accounts = names_of(parties(copy))
     count = differ = 0
     with counting("statements", copy.row("SELECT count(*) FROM balances")[0]) as advance:
-        for found in statements.all(since, names):
-            pages.write_all(into, files_of(found, copy.taken))
+        for found in statements.all(since, accounts):
+            pages.write_all(into, files_of(found, names, copy.taken))
             if pdf:
-                pages.write_pdf(as_page(found, copy.taken, CSV_NAME), into / folder_of(found.key) / "statement.pdf")
+                pages.write_pdf(as_page(found, names, copy.taken, CSV_NAME), into / folder_of(found.key) / "statement.pdf")
             if not found.agrees:
                 differ += 1
                 say(f"{found.key}: {verdict(found)}", error=True)

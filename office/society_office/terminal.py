@@ -1,6 +1,9 @@
 """Tables and lines in a terminal."""
 
 import contextlib
+import errno
+import io
+import os
 import sys
 from collections.abc import Callable, Iterable, Iterator, Sequence
 
@@ -14,6 +17,30 @@ from rich.text import Text
 
 # The width where the output is no terminal, as in a pipe or a file.
 PLAIN_WIDTH = 140
+
+
+class Closed(io.TextIOBase):
+    """A standard output that was closed before the command began."""
+
+    def write(self, text: str, /) -> int:
+        """An OSError, as writing to a closed file is."""
+        raise OSError(errno.EBADF, "it is closed")
+
+
+def prepare_streams() -> None:
+    """Letters that the locale has not are written as their numbers, and a closed stream is told or passed over."""
+    if sys.stdout is None:
+        sys.stdout = Closed()
+    if sys.stderr is None:
+        sys.stderr = open(os.devnull, "w")
+    for stream in (sys.stdout, sys.stderr):
+        if isinstance(stream, io.TextIOWrapper):
+            stream.reconfigure(errors="backslashreplace")
+
+
+def drop_output() -> None:
+    """What stands in standard output is not written any more."""
+    os.dup2(os.open(os.devnull, os.O_WRONLY), sys.stdout.fileno())
 
 
 def console(error: bool = False) -> Console:

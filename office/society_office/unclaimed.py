@@ -1,25 +1,20 @@
 """Unclaimed money: why nobody was paid, whose it may be, and what can be done about it."""
 
-import collections
 import dataclasses
 import enum
 import functools
 import json
 from collections.abc import Iterable, Iterator, Mapping, Sequence
-from typing import NamedTuple
+from typing import Any, NamedTuple
 
 from society_office.claims import Claim, Claims
 from society_office.copy import Copy
 from society_office.numbering import as_sent
-from society_office.plays import points
 from society_office.records import UNCLAIMED, Transaction, Works, transactions
 from society_office.shares import holders, nobodys, percent_text, shares_text
 
 NO_RECORDING = "-"
 TO_NOBODY = f"account = '{UNCLAIMED}' AND units > 0"
-# The reporter under which the office itself returns what is paid later, and the most plays of a row.
-SETTLED = "SETTLED"
-LARGEST_PLAYS = 1_000_000
 
 
 class Cause(enum.Enum):
@@ -103,10 +98,12 @@ class Unclaimed:
         self.cuts, self.rights = copy.cuts(), copy.rights()
 
     def each(self, pool: int | None = None) -> Iterator[Found]:
-        """What went to nobody, in the order of the pools and of their lines; of one pool where one is given."""
+        """What went to nobody by pool and recording, in the order of the pools and their lines; of one pool where one is given."""
         which, values = (f"NOT INDEXED WHERE {TO_NOBODY}", ()) if pool is None else (f"WHERE {TO_NOBODY} AND pool = ?", (pool,))
         self.claims = Claims(self.copy, (it[0] for it in self.copy.rows(f"SELECT DISTINCT isrc FROM credits {which}", *values)))
-        for number, isrc, units in self.copy.rows(f"SELECT pool, isrc, units FROM credits {which} ORDER BY pool, line", *values):
+        # A work may have several lines to nobody: one for each party that no number names, and what all parties leave.
+        question = f"SELECT pool, isrc, sum(units) FROM credits {which} GROUP BY pool, isrc ORDER BY pool, min(line)"
+        for number, isrc, units in self.copy.rows(question, *values):
             yield Found(number, isrc, units, *self.cause(number, isrc))
 
     def cause(self, pool: int, isrc: str) -> tuple[Cause, Sequence[Claim]]:
@@ -220,43 +217,6 @@ def late_text(ever: Sequence[Claim], cut: Mapping[str, int]) -> str:
     return f"the cut does not count the files of {ever[0].sender}"
 
 
-@dataclasses.dataclass(frozen=True)
-class Later:
-    """Money of recordings that went to nobody and have one owner now, in one right: the units of each that no pool has paid since."""
-
-    right: str
-    by_isrc: dict[str, int]
-
-    @property
-    def units(self) -> int:
-        """All of it."""
-        return sum(self.by_isrc.values())
-
-    @property
-    def returned(self) -> str:
-        """A return whose points are the units, so that a pool of this amount gives each recording its own."""
-        rows = [f"{isrc},{part},1" for isrc, units in self.by_isrc.items() for part in parts(units)]
-        return "isrc,plays,seconds\n" + "".join(f"{it}\n" for it in rows)
-
-
-def parts(units: int) -> list[int]:
-    """Units as numbers of plays that a row may have."""
-    return [LARGEST_PLAYS] * (units // LARGEST_PLAYS) + ([units % LARGEST_PLAYS] if units % LARGEST_PLAYS else [])
-
-
-def later(copy: Copy, items: Iterable[Item]) -> list[Later]:
-    """What was a conflict or not in the cut and has one owner now, by right, less what returns of the reporter SETTLED have paid."""
-    found: dict[str, collections.Counter[str]] = {}
-    for it in items:
-        if it.cause in (Cause.CONFLICT, Cause.LATE) and it.since:
-            found.setdefault(it.right, collections.Counter())[it.isrc] += it.units
-    rights = copy.rights()
-    paid = copy.rows("SELECT pool, body FROM returns JOIN pool_returns USING (reporter, number) WHERE reporter = ?", SETTLED)
-    for pool, body in paid:
-        found.setdefault(rights[pool], collections.Counter()).subtract(points(bytes(body)))
-    return [Later(right, dict(sorted((+it).items()))) for right, it in sorted(found.items()) if +it]
-
-
 def by_cause(items: Iterable[Item]) -> dict[Cause, list[Item]]:
     """The items by their causes, in the order of the causes."""
     found: dict[Cause, list[Item]] = {it: [] for it in Cause}
@@ -265,6 +225,11 @@ def by_cause(items: Iterable[Item]) -> dict[Cause, list[Item]]:
     return {cause: listed for cause, listed in found.items() if listed}
 
 
+def as_data(items: Iterable[Item]) -> list[dict[str, Any]]:
+    """The items as they stand in JSON, an object for each."""
+    return [{**dataclasses.asdict(it), "cause": it.cause.value} for it in items]
+
+
 def as_json(items: Iterable[Item]) -> str:
-    """The items as JSON, an object for each."""
-    return json.dumps([{**dataclasses.asdict(it), "cause": it.cause.value} for it in items], ensure_ascii=False, indent=1)
+    """The items as JSON."""
+    return json.dumps(as_data(items), ensure_ascii=False, indent=1)

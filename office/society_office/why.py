@@ -6,10 +6,11 @@ from collections.abc import Iterator
 from society_office import faults
 from society_office.checking import detail, explained
 from society_office.copy import Copy
-from society_office.cwr_faults import CheckedWork, checked_work
+
 from society_office.errors import OfficeError
 from society_office.numbering import Line, as_sent, counted, ranges, segment_text
 from society_office.records import sender_names, transactions
+from society_office.work_faults import UTF_8, CheckedWork, checked_work, first_warnings, warned
 
 
 @dataclasses.dataclass(frozen=True)
@@ -33,6 +34,7 @@ class SentFile:
     state: str
     accepted: int
     rejected: list[Rejected]
+    warnings: list[str]
 
 
 @dataclasses.dataclass(frozen=True)
@@ -47,6 +49,11 @@ class Story:
     def rejected(self) -> list[Rejected]:
         """All works that were rejected."""
         return [it for file in self.files for it in file.rejected]
+
+    @property
+    def warnings(self) -> list[str]:
+        """What may be wrong in the files that are applied, though it is no fault."""
+        return [f"file {as_sent(file.number)}: {it}" for file in self.files for it in file.warnings]
 
 
 def since_text(registered: list[tuple[int, int]], number: int) -> str:
@@ -72,12 +79,15 @@ def story(copy: Copy, sender: str) -> Story:
     for number, place, fault in copy.rows("SELECT number, place, fault FROM verdicts WHERE sender = ? ORDER BY number, place", sender):
         verdicts.setdefault(number, []).append((place, fault))
     skipped, waiting = set(line.skipped), set(line.waiting)
+    blank = {number for listed in (it for work, it in registered.items() if work.startswith(" ")) for _, number in listed}
     files = []
     for number in line.numbers:
         state = "skipped" if number in skipped else "waits" if number in waiting else "applied"
         listed = verdicts.get(number, [])
         bad = [it for it in listed if it[1]]
-        files.append(SentFile(number, state, len(listed) - len(bad), rejected_of(copy, sender, number, bad, registered)))
+        rejected = rejected_of(copy, sender, number, bad, registered)
+        warnings = warnings_of(copy, sender, number, number in blank) if state == "applied" else []
+        files.append(SentFile(number, state, len(listed) - len(bad), rejected, warnings))
     return Story(line, sender_names(copy).get(sender, ""), files)
 
 
@@ -94,6 +104,14 @@ def rejected_of(
         it = checked_work(body, works[place], copy.territory)
         found.append(Rejected(number, place, it.number, it.title, fault, it, since_text(registered.get(it.number, []), number)))
     return found
+
+
+def warnings_of(copy: Copy, sender: str, number: int, has_blank: bool) -> list[str]:
+    """What may be wrong with the works of a file; it is read closely only where it has letters past ASCII, or a number with a blank."""
+    body = copy.body(sender, number)
+    if not has_blank and (body.isascii() or not UTF_8.search(body)):
+        return []
+    return [it for work in transactions(body) for it in warned(checked_work(body, work, copy.territory))]
 
 
 def state_lines(it: Line) -> Iterator[str]:
@@ -122,8 +140,9 @@ def lines(it: Story) -> Iterator[str]:
             continue
         yield f"file {as_sent(file.number)}: {file.accepted:,} accepted, {len(file.rejected):,} rejected"
         for bad in file.rejected:
-            yield f"  REJECTED {bad.work} {bad.title}, fault {bad.fault}: {faults.words('transaction', bad.fault)}"
+            yield f"  REJECTED {bad.work.strip()} {bad.title}, fault {bad.fault}: {faults.words('transaction', bad.fault)}"
             yield from (f"    at {detail(fault)}" for fault in bad.own.faults if fault.number == bad.fault)
             yield from (f"    also {explained(fault)}" for fault in bad.own.faults if fault.number != bad.fault)
             if bad.since:
                 yield f"    {bad.since}"
+        yield from (f"  {it}" for it in first_warnings(file.warnings))

@@ -8,6 +8,7 @@ import shutil
 import sqlite3
 import subprocess
 import sys
+import tempfile
 from collections.abc import Iterator
 
 import pytest
@@ -17,6 +18,7 @@ ROOT = HERE.parent.parent
 sys.path[:0] = [str(HERE), str(HERE.parent)]
 
 import quarter  # noqa: E402 (the folder of the tests comes first)
+from office_value import Office  # noqa: E402
 
 OFFICE = ["--society", "900", "--territory", "40", "--name", "EXAMPLE SOCIETY"]
 TAKEN = {200, 201, 202}
@@ -24,8 +26,26 @@ TAKEN = {200, 201, 202}
 
 @pytest.fixture(scope="session")
 def program() -> str:
-    """The program under test: $SOCIETY_PROGRAM, else bin/society of this checkout."""
-    return os.environ.get("SOCIETY_PROGRAM", str(ROOT / "bin/society"))
+    """The program under test: $SOCIETY_PROGRAM, else the one that bin/society of this checkout runs."""
+    if found := os.environ.get("SOCIETY_PROGRAM"):
+        return found
+    asked = subprocess.run([ROOT / "bin/program"], stdout=subprocess.PIPE, text=True, check=False)
+    return asked.stdout.strip() or str(ROOT / "bin/society")
+
+
+@contextlib.contextmanager
+def running(program: str, database: pathlib.Path, port: int, *words: str) -> Iterator[subprocess.Popen[bytes]]:
+    """An office over a file, which listens; whatever fails meanwhile, it is ended with the `with`."""
+    options = ["--db", str(database), "--port", str(port), *OFFICE, *words]
+    process = subprocess.Popen([program, "serve", *options], stdout=subprocess.PIPE)
+    try:
+        assert process.stdout and process.stdout.readline() == b"listening\n"
+        yield process
+    finally:
+        process.kill()
+        process.wait()
+        if process.stdout:
+            process.stdout.close()
 
 
 @contextlib.contextmanager
@@ -34,35 +54,67 @@ def served(program: str, database: pathlib.Path) -> Iterator[http.client.HTTPCon
     from society_office.program import free_port
 
     port = free_port()
-    words = [program, "serve", "--db", str(database), "--port", str(port), "--connections", "1", *OFFICE]
-    with subprocess.Popen(words, stdout=subprocess.PIPE) as process:
-        assert process.stdout and process.stdout.readline() == b"listening\n"
+    with running(program, database, port, "--connections", "1") as process:
         connection = http.client.HTTPConnection("127.0.0.1", port, timeout=300)
+        connection.connect()
         try:
             yield connection
         finally:
             connection.close()
-            process.wait(60)
+        process.wait(60)
+
+
+def put(connection: http.client.HTTPConnection, path: str, body: bytes) -> int:
+    """Sends a body; answers the status."""
+    connection.request("PUT", f"/v1{path}", body=body)
+    answer = connection.getresponse()
+    answer.read()
+    return answer.status
+
+
+def made(program: str, office: Office, folder: pathlib.Path) -> pathlib.Path:
+    """A copy of the file of an office that was sent all that the value says; the office has ended."""
+    with served(program, folder / "office.db") as connection:
+        for path, body in office.requests():
+            assert put(connection, path, body) in TAKEN, path
+    return backed_up(folder / "office.db", folder / "copy.db")
+
+
+def further(program: str, copy: pathlib.Path, requests: list[tuple[str, bytes]], target: pathlib.Path) -> pathlib.Path:
+    """A copy of an office that goes on from another copy with further requests."""
+    working = pathlib.Path(shutil.copy(copy, target.with_name("working.db")))
+    with served(program, working) as connection:
+        for path, body in requests:
+            assert put(connection, path, body) in TAKEN, path
+    backed_up(working, target)
+    for it in target.parent.glob("working.db*"):
+        it.unlink()
+    return target
+
+
+def backed_up(source: pathlib.Path, target: pathlib.Path) -> pathlib.Path:
+    """A copy of an office's file, as its one file."""
+    with contextlib.closing(sqlite3.connect(source)) as office, contextlib.closing(sqlite3.connect(target)) as copy:
+        office.backup(copy)
+    return target
 
 
 @pytest.fixture(scope="session")
 def filled(program: str, tmp_path_factory: pytest.TempPathFactory) -> pathlib.Path:
     """The file of the quarter's office, which has ended, as its one file."""
-    folder = tmp_path_factory.mktemp("office")
-    with served(program, folder / "office.db") as connection:
-        for path, body in quarter.requests():
-            connection.request("PUT", f"/v1{path}", body=body)
-            answer = connection.getresponse()
-            assert answer.status in TAKEN, (path, answer.status, answer.read())
-            answer.read()
-    with contextlib.closing(sqlite3.connect(folder / "office.db")) as office, contextlib.closing(
-        sqlite3.connect(folder / "copy.db")
-    ) as copy:
-        office.backup(copy)
-    return folder / "copy.db"
+    return made(program, quarter.OFFICE, tmp_path_factory.mktemp("office"))
 
 
 @pytest.fixture
 def copy(filled: pathlib.Path, tmp_path: pathlib.Path) -> pathlib.Path:
     """A copy of the quarter's office of a test's own."""
     return pathlib.Path(shutil.copy(filled, tmp_path / "copy.db"))
+
+
+@pytest.fixture
+def folder(monkeypatch: pytest.MonkeyPatch) -> Iterator[pathlib.Path]:
+    """A throw-away folder, in memory where there is one; the commands' own throw-away copies are made there too."""
+    memory = "/dev/shm" if os.access("/dev/shm", os.W_OK) else None
+    with tempfile.TemporaryDirectory(prefix="random-office-", dir=memory) as found:
+        monkeypatch.setattr(tempfile, "tempdir", found)
+        yield pathlib.Path(found)

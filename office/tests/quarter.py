@@ -1,13 +1,11 @@
-"""A quarter of an office: five publishers, three stations, four pools of both rights, names by year, a conflict, a gap, rejected works."""
+"""A quarter of an office as a value: five publishers, three stations, four pools, names by year, a conflict, a gap, rejected works."""
 
-import json
-
-from cwr import Party, Row, Work, file
+from cwr import Party, Row, Work
+from office_value import PLAIN, End, File, Office, Pool, Return
 
 HALF, WHOLE, NONE = ("05000", "05000", "05000"), ("10000", "10000", "10000"), ("00000", "00000", "00000")
 ALPHA, BETA, GAMMA, DELTA, EPSILON = "PB000000012", "PB000000034", "PB000000056", "PB000000078", "PB000000090"
 NAMES = {ALPHA: "ALPHA MUSIC", BETA: "BETA VERLAG", GAMMA: "GAMMA SONGS", DELTA: "DELTA & SONS", EPSILON: "EPSILON"}
-TERRITORY, WORLD = 40, 2136
 PR_HALF, MR_ONLY = ("05000", "00000", "00000"), ("05000", "10000", "10000")
 
 
@@ -117,9 +115,6 @@ LATER = [
     ),
     (EPSILON, 2, "transmissions/2", [nwr("E4", "CAME LATE", "FREPS2600004", *THIRDS)]),
 ]
-HELD = {(GAMMA, 3), (BETA, 1_250_001)}
-END_OF_PLAIN = (BETA, "plain", b'{"last":1,"next":26}')
-
 RETURNS = {
     ("RADIO1", 1): [
         ("ATABC2600001", 10, 200),
@@ -147,58 +142,23 @@ RETURNS = {
     ("TV1", 1): [("ATABC2600003", 11, 30), ("ATABC2600001", 1, 29)],
     ("TV1", 2): [("ATABC2600003", 99, 9_999)],
 }
-VOID = "# sent by mistake\nTV1 2  a wrong month\n"
+VOID = "# sent by mistake\nTV1/2  # a wrong month\n"
 FIRST_CUT = {ALPHA: 2, BETA: 1, GAMMA: 1, DELTA: 1, EPSILON: 1}
 LAST_CUT = {ALPHA: 3, BETA: 1_260_002, GAMMA: 1, DELTA: 2, EPSILON: 1}
-# Each pool: its right, its amount, its cut, and the returns that it pays.
-POOLS = {
-    1: ("PR", 1_000_003, FIRST_CUT, [("RADIO1", 1), ("RADIO2", 1)]),
-    2: ("MR", 40_001, FIRST_CUT, [("RADIO1", 2)]),
-    3: ("PR", 7_777_777, LAST_CUT, [("RADIO1", 3), ("RADIO2", 2)]),
-    5: ("PR", 12, FIRST_CUT, []),
-}
-CLOSED_LATER = (3, 5)
-
-
-def body(sender: str, works: list[Work]) -> bytes:
-    """A file's bytes."""
-    return file(sender, NAMES[sender], works)
-
-
-def return_body(rows: list[tuple[str, int, int]]) -> bytes:
-    """A return's bytes."""
-    return b"isrc,plays,seconds\n" + b"".join(b"%s,%d,%d\n" % (isrc.encode(), plays, seconds) for isrc, plays, seconds in rows)
-
-
-def sent(rank: int) -> int | str:
-    """A number as it stands in an order."""
-    return rank if rank < 1_000_000 else f"{rank // 10_000 - 100:02d}-{rank % 10_000:04d}"
-
-
-def order(pool: int) -> bytes:
-    """A pool's order."""
-    right, amount, cut, returns = POOLS[pool]
-    kind = {"kind": "MR"} if right == "MR" else {}
-    return json.dumps({**kind, "amount": amount, "cut": [[key, sent(it)] for key, it in cut.items()], "returns": returns}).encode()
-
-
-def requests() -> list[tuple[str, bytes]]:
-    """All that is sent, in order: the path behind /v1 and the body."""
-
-    def put(files: list[tuple[str, int, str, list[Work]]]) -> list[tuple[str, bytes]]:
-        return [(f"/senders/{sender}/{path}", body(sender, works)) for sender, _, path, works in files]
-
-    def close(pools: list[int]) -> list[tuple[str, bytes]]:
-        return [(f"/pools/{pool}", order(pool)) for pool in pools]
-
-    returns = [(f"/returns/{reporter}/{number}", return_body(rows)) for (reporter, number), rows in RETURNS.items()]
-    sender, segment, end = END_OF_PLAIN
-    first = [it for it in POOLS if it not in CLOSED_LATER]
-    return [
-        *put(FILES),
-        (f"/senders/{sender}/segments/{segment}", end),
-        *returns,
-        *close(first),
-        *put(LATER),
-        *close(list(CLOSED_LATER)),
-    ]
+POOLS = [
+    Pool(1, "PR", 1_000_003, FIRST_CUT, [("RADIO1", 1), ("RADIO2", 1)]),
+    Pool(2, "MR", 40_001, FIRST_CUT, [("RADIO1", 2)]),
+    Pool(3, "PR", 7_777_777, LAST_CUT, [("RADIO1", 3), ("RADIO2", 2)]),
+    Pool(5, "PR", 12, FIRST_CUT, []),
+]
+OFFICE = Office(
+    NAMES,
+    [
+        *(File(*it) for it in FILES),
+        End(BETA, PLAIN, 1, 26),
+        *(Return(reporter, number, rows) for (reporter, number), rows in RETURNS.items()),
+        *POOLS[:2],
+        *(File(*it) for it in LATER),
+        *POOLS[2:],
+    ],
+)

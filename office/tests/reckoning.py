@@ -1,15 +1,19 @@
-"""What a quarter's pools have to credit, reckoned from the office's rules and what was sent; nothing of the package is used.
+"""What an office's pools have to credit, reckoned from the office's rules and what was sent; nothing of the package is used.
 
 Points are plays times seconds. The amount is split over the recordings by points, each part over the holders of the only work whose version
 at the cut names the recording, by their collection shares in the pool's right, and what these leave of 10000 is nobody's.
 """
 
+import functools
 from collections import Counter
 
-import quarter
 from cwr import Party, Work
+from office_value import Key, Office
 
 NOBODY = "UNCLAIMED"
+WORLD = 2136
+# A credit: recording, account, units.
+Credit = tuple[str, str, int]
 
 
 def split(amount: int, weights: list[int]) -> list[int]:
@@ -29,82 +33,104 @@ def account(sender: str, party: Party) -> str:
     return f"P{sender}{party.number}" if party.number else NOBODY
 
 
-def collects(party: Party, right: str) -> int:
+def collects(party: Party, right: str, territory: int) -> int:
     """The collection share of the last row that is of the world or of the office's territory."""
     share = 0
     for row in party.rows:
-        if int(row.territory) in (quarter.WORLD, quarter.TERRITORY):
+        if int(row.territory) in (WORLD, territory):
             share = int(row.shares[("PR", "MR").index(right)]) if row.indicator == "I" else 0
     return share
 
 
-def holders(sender: str, work: Work, right: str) -> list[tuple[str, int]]:
-    found = [(account(sender, it), collects(it, right)) for it in work.parties]
+def holders(office: Office, sender: str, work: Work, right: str) -> list[tuple[str, int]]:
+    found = [(account(sender, it), collects(it, right, office.territory)) for it in work.parties]
     return [*found, (NOBODY, max(10_000, sum(it[1] for it in found)) - sum(it[1] for it in found))]
 
 
-def versions(cut: dict[str, int]) -> dict[tuple[str, str], Work]:
+def versions(office: Office, cut: dict[str, int]) -> dict[tuple[str, str], Work]:
     """The last accepted version of each work that a cut counts; of a file registrations come before revisions."""
     found = {}
-    for sender, number, _, works in sorted(quarter.FILES + quarter.LATER, key=lambda it: it[:2]):
-        if (sender, number) not in quarter.HELD and number <= cut.get(sender, 0):
+    for sender, number, _, works in office.files:
+        if (sender, number) in office.applied and number <= cut.get(sender, 0):
             found.update({(sender, it.number): it for it in sorted(works, key=lambda it: it.kind) if not it.fault})
     return found
 
 
-def claimants(isrc: str, cut: dict[str, int]) -> list[tuple[str, Work]]:
-    return [(sender, work) for (sender, _), work in versions(cut).items() if isrc in work.recordings]
+@functools.cache
+def owners(office: Office, pool: int | None) -> dict[str, list[tuple[str, Work]]]:
+    """The works that name each recording at the cut of a pool, or now."""
+    found: dict[str, list[tuple[str, Work]]] = {}
+    for (sender, _), work in versions(office, office.fronts() if pool is None else office.pools[pool].cut).items():
+        for isrc in dict.fromkeys(work.recordings):
+            found.setdefault(isrc, []).append((sender, work))
+    return found
 
 
-def points(returns: list[tuple[str, int]]) -> dict[str, int]:
+def claimants(office: Office, pool: int | None, isrc: str) -> list[tuple[str, Work]]:
+    return owners(office, pool).get(isrc, [])
+
+
+def points(office: Office, returns: list[Key]) -> dict[str, int]:
     found: Counter[str] = Counter()
     for named in returns:
-        for isrc, plays, seconds in quarter.RETURNS[named]:
+        for isrc, plays, seconds in office.returns[named]:
             found[isrc.upper().replace("-", "")] += plays * seconds
     return dict(sorted(found.items()))
 
 
-def credits(pool: int) -> list[tuple[str, str, int]]:
-    """The credits of a pool: recording, account, units."""
-    right, amount, cut, returns = quarter.POOLS[pool]
-    played = points(returns)
+@functools.cache
+def credits(office: Office, pool: int) -> list[Credit]:
+    """The credits of a pool."""
+    _, right, amount, _, returns = office.pools[pool]
+    played = points(office, returns)
     if not played:
         return [("-", NOBODY, amount)]
     lines = []
     for isrc, part in zip(played, split(amount, list(played.values()))):
-        found = claimants(isrc, cut)
-        owned = holders(*found[0], right) if len(found) == 1 else [(NOBODY, 1)]
+        found = claimants(office, pool, isrc)
+        owned = holders(office, *found[0], right) if len(found) == 1 else [(NOBODY, 1)]
         lines += [(isrc, name, units) for (name, _), units in zip(owned, split(part, [it[1] for it in owned]))]
     return lines
 
 
-def lines_of(name: str) -> list[tuple[int, str, str, str, str, str, int]]:
+def lines_of(office: Office, name: str) -> list[tuple[int, str, str, str, str, str, int]]:
     """An account's credits: pool, right, recording, title, work, sender, units."""
     found = []
-    for pool, (right, _, cut, _) in quarter.POOLS.items():
-        for isrc, to, units in credits(pool):
+    for pool in sorted(office.pools):
+        for isrc, to, units in credits(office, pool):
             if to == name:
-                owners = claimants(isrc, cut)
-                title, work, sender = (owners[0][1].title, owners[0][1].number, owners[0][0]) if len(owners) == 1 else ("", "", "")
-                found.append((pool, right, isrc, title, work, sender, units))
+                owned = claimants(office, pool, isrc)
+                title, work, sender = (owned[0][1].title, owned[0][1].number, owned[0][0]) if len(owned) == 1 else ("", "", "")
+                found.append((pool, office.pools[pool].right, isrc, title, work, sender, units))
     return found
 
 
-def balances() -> dict[str, int]:
+@functools.cache
+def balances(office: Office) -> dict[str, int]:
     found: Counter[str] = Counter()
-    for pool in quarter.POOLS:
-        for _, name, units in credits(pool):
+    for pool in office.pools:
+        for _, name, units in credits(office, pool):
             found[name] += units
     return dict(found)
 
 
-def unclaimed(pool: int) -> dict[str, tuple[str, int]]:
-    """The unclaimed units of a pool's recordings, each with `none`, `conflict` or `share`."""
-    _, _, cut, _ = quarter.POOLS[pool]
+@functools.cache
+def unclaimed(office: Office, pool: int) -> dict[str, tuple[str, int]]:
+    """The unclaimed units of a pool's recordings, each with `plays`, `none`, `conflict` or `share`."""
     names = {0: "none", 1: "share"}
     found: Counter[str] = Counter()
-    for isrc, to, units in credits(pool):
+    for isrc, to, units in credits(office, pool):
         if to == NOBODY and units:
             found[isrc] += units
-    causes = {it: "plays" if it == "-" else names.get(len(claimants(it, cut)), "conflict") for it in found}
+    causes = {it: "plays" if it == "-" else names.get(len(claimants(office, pool, it)), "conflict") for it in found}
     return {isrc: (causes[isrc], units) for isrc, units in found.items()}
+
+
+def settleable(office: Office) -> dict[str, Counter[str]]:
+    """What went to nobody for want of one owner and has one now, by right and recording."""
+    found: dict[str, Counter[str]] = {}
+    for pool, it in office.pools.items():
+        for isrc, (cause, units) in unclaimed(office, pool).items():
+            if cause in ("none", "conflict") and len(claimants(office, None, isrc)) == 1:
+                found.setdefault(it.right, Counter())[isrc] += units
+    return found

@@ -1,17 +1,28 @@
 """Files that are checked before they are sent, and what became of those that were: our own reading beside the program."""
 
+import collections
 import json
 import pathlib
+import random
 
+import cwr
+import mutants
+import pytest
 import quarter
-from conftest import ROOT
+import reckoning
+from conftest import ROOT, made
+from office_value import File, Office, Step
+from cwr import file
 from society_office import checking
 from society_office.copy import open_copy
+from society_office.plays import points
 from society_office.program import ReplayOffice
+from society_office.records import transactions
 from society_office.why import story
 from test_statements import run
 
 FIRST = (ROOT / "examples/first.cwr").read_bytes()
+SENDER = "PB000000012"
 WORDS = ["--society", "900", "--territory", "40", "--name", "EXAMPLE SOCIETY"]
 # Fields that are written over: line, position from 1, what is put there.
 CHANGES = [
@@ -32,6 +43,8 @@ CHANGES = [
     (3, 82, "W\x01"),
     (3, 96, "T0345246802"),
     (3, 96, "T034524680"),
+    (3, 96, "T0000000010"),
+    (3, 96, "T000000001X"),
     (3, 96, "           "),
     (4, 1, "GRH"),
     (4, 1, "S_U"),
@@ -82,6 +95,9 @@ ROWS = [
     "ISRC,plays,seconds",
     "isrc;plays;seconds",
     "",
+    "\n\nisrc,plays,seconds\nATABC2600001,1,1\n",
+    "\r\n\ufeffisrc,plays,seconds\n",
+    f"isrc,plays,seconds\nATABC2600001,\"1,1\n{'ATABC2600001,1,1' * 12_000}",
     "isrc,plays,seconds\n",
     "\ufeffisrc,plays,seconds\r\nATABC2600001,1,1\r\n\r\n",
     *(
@@ -131,6 +147,8 @@ def bodies() -> list[bytes]:
         FIRST + b"  \r\n",
         FIRST + b"X\r\n",
         FIRST.replace(b"\r\n", b""),
+        b"X" + FIRST.replace(b"\r\n", b""),
+        b"X" * 2_001 + FIRST,
     ]
     others += [b"\r\n".join(lines[:k] + lines[k + 1 :]) for k in range(1, 11)]
     others += [b"\r\n".join(lines[:k] + [lines[k]] + lines[k:]) for k in range(11)]
@@ -138,23 +156,23 @@ def bodies() -> list[bytes]:
     return [changed(*it) for it in CHANGES] + others
 
 
+def tried(office: ReplayOffice, body: bytes, number: int) -> checking.Sent:
+    """A file that was tried under a number, and read by ourselves."""
+    file = checking.Sent(f"{number}.cwr", body, number, "", f"transmissions/{number}")
+    file.own = checking.checked(body, SENDER, 40)
+    checking.take_answer(file, office.ask("PUT", f"/v1/senders/{SENDER}/{file.path}", body))
+    if file.state == "applied":
+        checking.ask_verdicts(office, SENDER, file)
+    return file
+
+
 def test_our_own_reading_is_the_programs(program: str) -> None:
     office = ReplayOffice(program, WORDS)
     number = 0
     for body in bodies():
         # A work number of its own for each file, so that no work is registered before.
-        file = checking.Sent(
-            f"{number}.cwr",
-            body.replace(b"W1      ", b"W%-7d" % number, 1),
-            number + 1,
-            "",
-            f"transmissions/{number + 1}",
-        )
-        file.own = checking.checked(file.body, "PB000000012", 40)
-        checking.take_answer(file, office.ask("PUT", f"/v1/senders/PB000000012/{file.path}", file.body))
-        if file.state == "applied":
-            number += 1
-            checking.ask_verdicts(office, "PB000000012", file)
+        file = tried(office, body.replace(b"W1      ", b"W%-7d" % number, 1), number + 1)
+        number += file.state == "applied"
         assert not file.differs, (body, file)
     for row, body in enumerate(ROWS):
         played = checking.Sent("it.csv", body.encode())
@@ -163,11 +181,44 @@ def test_our_own_reading_is_the_programs(program: str) -> None:
     office.close()
 
 
+@pytest.mark.parametrize("seed", range(12))
+def test_our_own_reading_of_random_changes_is_the_programs(seed: int, program: str) -> None:
+    rng, office, number = random.Random(seed), ReplayOffice(program, WORDS), 0
+    sources = [FIRST] + [cwr.file(SENDER, "ALPHA", it.works) for it in quarter.OFFICE.files if it.sender != quarter.BETA]
+    states = collections.Counter[str]()
+    for _ in range(100):
+        body = mutants.file(rng, rng.choice(sources))
+        file = tried(office, body, number + 1)
+        number += file.state == "applied"
+        states[file.state] += 1
+        assert not file.differs, (body, file.differs)
+        # What is registered is what was read: the verdict of a work without a fault hangs on its number alone.
+        assert [it.work for it in transactions(body)] == [it.number for it in file.own.works] if file.state == "applied" else True
+    stored, listed = collections.Counter[str](), list[int]()
+    for row in range(100):
+        played = checking.Sent("it.csv", mutants.a_return(rng))
+        checking.check_return(office, "/v1/returns/RADIO1", row + 1, played)
+        states[played.state] += 1
+        assert not played.differs, (played.body, played.differs)
+        if played.state == "stored":
+            stored.update(points(played.body))
+            listed.append(row + 1)
+    assert min(states["applied"], states["refused"], states["stored"]) > 15, states
+    # The program counts the points of what it took as we do: over no file a pool goes to nobody, recording by recording.
+    order = json.dumps({"amount": 10**12, "cut": [], "returns": [["RADIO1", it] for it in listed]}).encode()
+    assert office.ask("PUT", "/v1/pools/1", order).status == 201
+    isrcs = sorted(stored)
+    parts = reckoning.split(10**12, [stored[it] for it in isrcs])
+    lines = office.ask("GET", "/v1/pools/1").body.decode().splitlines()[1:]
+    assert lines == [f"{isrc},UNCLAIMED,{units}" for isrc, units in zip(isrcs, parts)]
+    office.close()
+
+
 def test_every_fault_of_a_work_is_told(tmp_path: pathlib.Path, program: str) -> None:
     paths = []
     for sender, number, path, works in quarter.FILES[:3]:
         paths.append(tmp_path / f"{number}.cwr")
-        paths[-1].write_bytes(quarter.body(sender, works))
+        paths[-1].write_bytes(file(sender, quarter.NAMES[sender], works))
     said = run("check", *paths, "--program", program, status=1, out=True)
     assert "1 of 3 works accepted" in said and "(the check digit of T034524680 is 1: T0345246801)" in said
     assert "at line 6, SWR, PR ownership share 130-134: '10001'" in said
@@ -179,11 +230,21 @@ def test_every_fault_of_a_work_is_told(tmp_path: pathlib.Path, program: str) -> 
 def test_names_by_year_and_ends(tmp_path: pathlib.Path, program: str) -> None:
     paths = [tmp_path / it for it in ("plain.cwr", "CW260001BE_900.V22", "CW270001BE_900.V21")]
     for path, (sender, _, _, works) in zip(paths, quarter.FILES[3:6]):
-        path.write_bytes(quarter.body(sender, works))
+        path.write_bytes(file(sender, quarter.NAMES[sender], works))
     said = run("check", *paths, "--program", program)
     assert 'segments/plain {"last":1,"next":26}' in said and 'segments/26 {"last":1,"next":27}' in said
     assert f"27-0001 {paths[2]}: applied" in said
     assert "26-0001" in run("check", paths[1], paths[2], "--program", program, "--brief", status=1, out=True)
+
+
+def test_files_by_year_that_are_given_in_another_order(tmp_path: pathlib.Path, program: str) -> None:
+    names = ["plain.cwr", "CW260002BE_900.V22", "CW260001BE_900.V22", "CW270001BE_900.V21", "CW270002BE_901.V21"]
+    for k, name in enumerate(names):
+        (tmp_path / name).write_bytes(FIRST.replace(b"W1      ", b"W%-7d" % k))
+    said = run("check", *(tmp_path / it for it in names), "--program", program, status=1, out=True)
+    assert 'segments/26 {"last":2,"next":27}' in said
+    assert said.count("note: the name says that it goes to society 901, which is not this one") == 1
+    assert f"{tmp_path}/CW270002BE_901.V21: REFUSED" in said
 
 
 def test_a_file_of_works_without_its_header(tmp_path: pathlib.Path, program: str) -> None:
@@ -206,10 +267,18 @@ def test_spreadsheets(tmp_path: pathlib.Path, program: str) -> None:
 
 
 def test_a_file_is_checked_against_a_copy(copy: pathlib.Path, tmp_path: pathlib.Path, program: str) -> None:
-    (tmp_path / "it.cwr").write_bytes(quarter.body(quarter.BETA, [quarter.rev("2", "AGAIN", "DEBET2600002", quarter.BETA_HOUSE)]))
+    (tmp_path / "it.cwr").write_bytes(file(quarter.BETA, "BETA VERLAG", [quarter.rev("2", "AGAIN", "DEBET2600002", quarter.BETA_HOUSE)]))
     assert f"26-0003 {tmp_path}/it.cwr: applied\n  1 of 1 works accepted" in run(
         "check", tmp_path / "it.cwr", "--copy", copy, "--program", program
     )
+
+
+def test_a_revision_that_is_rejected_in_the_file_of_its_work(tmp_path: pathlib.Path, program: str) -> None:
+    work = quarter.nwr("A1", "FIRST", "ATABC2600001", quarter.ALPHA_HOUSE, quarter.ANNA)
+    again = quarter.rev("A1", "AGAIN", "ATABC2600001", quarter.ALPHA_HOUSE, quarter.OVERSHARED, fault=5)
+    steps: list[Step] = [File(quarter.ALPHA, 1, "transmissions/1", [work, again])]
+    said = run("why", made(program, Office(quarter.NAMES, steps), tmp_path), quarter.ALPHA)
+    assert "revision 0 of file 1 stands" in said and "registered since" not in said
 
 
 def test_why(copy: pathlib.Path) -> None:
@@ -219,7 +288,7 @@ def test_why(copy: pathlib.Path) -> None:
             file = next(it for it in told[sender].files if it.number == number)
             wanted = (
                 []
-                if (sender, number) in quarter.HELD
+                if (sender, number) in quarter.OFFICE.held
                 else [(it.number, it.fault) for it in sorted(works, key=lambda it: it.kind) if it.fault]
             )
             assert [(it.work, it.fault) for it in file.rejected] == wanted

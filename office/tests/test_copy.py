@@ -4,26 +4,18 @@ import contextlib
 import pathlib
 import shutil
 import sqlite3
-import subprocess
 
 import pytest
 import quarter
 import reckoning
-from conftest import OFFICE, ROOT, served
+from conftest import ROOT, running, served
 from society_office.copy import open_copy
 from society_office.errors import OfficeError
 from society_office.program import Office, free_port
 from society_office.statements import Statements
-from test_statements import run
+from test_statements import changed, run
 
 DERIVED = "".join(f"DROP TABLE {it};" for it in ("fronts", "verdicts", "versions", "recordings", "credits", "balances"))
-
-
-@contextlib.contextmanager
-def changed(path: pathlib.Path):  # type: ignore[no-untyped-def]
-    with contextlib.closing(sqlite3.connect(path)) as database:
-        yield database
-        database.commit()
 
 
 def refused(path: pathlib.Path) -> str:
@@ -125,6 +117,24 @@ def test_a_log_of_another_file_is_refused(copy: pathlib.Path, tmp_path: pathlib.
     assert "pages of 512 bytes" in refused(folder / "pair.db")
 
 
+def test_a_log_whose_rows_refer_to_nothing_is_refused(copy: pathlib.Path, tmp_path: pathlib.Path) -> None:
+    folder = tmp_path / "pair"
+    folder.mkdir()
+    in_log(copy, "INSERT INTO pool_returns VALUES ('NONE', 1, 1)", folder)
+    assert "a row has lost the row to which it refers" in refused(folder / "pair.db")
+
+
+def test_a_log_that_was_begun_anew_is_passed_over(copy: pathlib.Path, tmp_path: pathlib.Path) -> None:
+    folder = tmp_path / "pair"
+    folder.mkdir()
+    in_log(copy, "INSERT INTO returns VALUES ('TV9', 1, x'00')", folder)
+    log = bytearray((folder / "pair.db-wal").read_bytes())
+    log[32 + 8] ^= 1
+    (folder / "pair.db-wal").write_bytes(log)
+    with open_copy(folder / "pair.db") as opened:
+        assert opened.row("SELECT count(*) FROM returns WHERE reporter = 'TV9'") == (0,) and opened.note == ""
+
+
 def test_an_empty_log_is_passed_over(copy: pathlib.Path) -> None:
     for content in (b"", b"\x37\x7f\x06\x82" + bytes(37)):
         copy.with_name("copy.db-wal").write_bytes(content)
@@ -150,9 +160,7 @@ def test_what_is_no_copy(copy: pathlib.Path, tmp_path: pathlib.Path) -> None:
 
 def test_the_file_of_an_office_that_runs_is_refused(copy: pathlib.Path, program: str) -> None:
     port = free_port()
-    words = [program, "serve", "--existing", "--db", str(copy), "--port", str(port), "--connections", "1", *OFFICE]
-    with subprocess.Popen(words, stdout=subprocess.PIPE) as process:
-        assert process.stdout and process.stdout.readline() == b"listening\n"
+    with running(program, copy, port, "--existing", "--connections", "1") as process:
         assert "is in use" in refused(copy)
         # While it runs, both files copied at one moment are a copy: here nothing is written meanwhile.
         folder = copy.parent / "moment"
@@ -163,6 +171,6 @@ def test_the_file_of_an_office_that_runs_is_refused(copy: pathlib.Path, program:
             shutil.copyfile(f"{copy}{end}", folder / f"copy.db{end}")
         with open_copy(folder / "copy.db") as opened:
             assert opened.row("SELECT count(*) FROM returns WHERE reporter = 'TV9'") == (1,)
-            assert dict(opened.rows("SELECT account, units FROM balances")) == reckoning.balances()
+            assert dict(opened.rows("SELECT account, units FROM balances")) == reckoning.balances(quarter.OFFICE)
         office.close()
         process.wait(60)

@@ -5,9 +5,12 @@ import pathlib
 
 import quarter
 import reckoning
+from office_value import order_body
 from society_office.copy import open_copy
-from society_office.orders import propose
-from society_office.unclaimed import Cause, Unclaimed, later
+from society_office.orders import Wanted, propose
+from society_office.settling import later
+from society_office.stored_returns import stored_returns
+from society_office.unclaimed import Cause, Unclaimed
 from test_statements import run
 
 CAUSES = {"share": {Cause.SHARE}, "conflict": {Cause.CONFLICT}, "plays": {Cause.NO_PLAYS}}
@@ -16,12 +19,12 @@ NONE = {Cause.LATE, Cause.REJECTED, Cause.WAITING, Cause.NOBODY}
 
 def test_unclaimed_money_has_its_cause(copy: pathlib.Path) -> None:
     with open_copy(copy) as opened:
-        for pool in quarter.POOLS:
+        for pool in quarter.OFFICE.pools:
             found = Unclaimed(opened).items(pool)
             sums = {isrc: sum(it.units for it in found if it.isrc == isrc) for isrc in {it.isrc for it in found}}
-            assert sums == {isrc: units for isrc, (_, units) in reckoning.unclaimed(pool).items()}
+            assert sums == {isrc: units for isrc, (_, units) in reckoning.unclaimed(quarter.OFFICE, pool).items()}
             for it in found:
-                assert it.cause in CAUSES.get(reckoning.unclaimed(pool)[it.isrc][0], NONE), it
+                assert it.cause in CAUSES.get(reckoning.unclaimed(quarter.OFFICE, pool)[it.isrc][0], NONE), it
 
 
 def test_why_nobody_is_paid(copy: pathlib.Path) -> None:
@@ -52,10 +55,15 @@ def test_an_order_is_proposed(copy: pathlib.Path) -> None:
         ],
         "returns": [["TV1", 1]],
     }
+    changes = [f"{quarter.BETA}=1", f"{quarter.DELTA}=0", f"{quarter.ALPHA}=2"]
+    cut = [word for it in changes for word in ("--cut", it)]
+    earlier = run("propose", copy, "--amount", 1000, *cut)
+    assert json.loads(earlier)["cut"] == [[quarter.ALPHA, 2], [quarter.BETA, 1], [quarter.GAMMA, 1], [quarter.EPSILON, 2]]
+    assert "is no sender with a number" in run("propose", copy, "--amount", 1000, "--cut", "PB999999999=1", status=1)
     with open_copy(copy) as opened:
         # The double was paid in the performing right only, so a pool of the mechanical right may pay it.
-        found = propose(opened, 7, "MR", [], [])
-    assert found.returns == [("RADIO1", 4), ("TV1", 1), ("TV1", 2)] and json.loads(found.json)["kind"] == "MR" and found.pool == 6
+        found = propose(opened, 7, "MR", Wanted(), [])
+    assert found.order.returns == [("RADIO1", 4), ("TV1", 1), ("TV1", 2)] and json.loads(found.json)["kind"] == "MR" and found.pool == 6
 
 
 def test_an_order_is_rehearsed(copy: pathlib.Path, tmp_path: pathlib.Path, program: str) -> None:
@@ -63,15 +71,18 @@ def test_an_order_is_rehearsed(copy: pathlib.Path, tmp_path: pathlib.Path, progr
     run("propose", copy, "--amount", 1000, "--returns", "TV1/1", "--output", tmp_path / "order.json")
     said = run("rehearse", copy, tmp_path / "order.json", "--program", program)
     assert "pool 6 would be closed with 1,000 units of the PR" in said and "BORIS COMPOSER" in said
-    (tmp_path / "order.json").write_bytes(quarter.order(1).replace(b"1000003", b"5"))
+    (tmp_path / "order.json").write_bytes(order_body(quarter.POOLS[0]).replace(b"1000003", b"5"))
     assert "is paid by pool 1: leave it out" in run("rehearse", copy, tmp_path / "order.json", "--program", program, status=1, out=True)
     assert copy.read_bytes() == before and {it.name for it in copy.parent.iterdir()} == {"copy.db", "order.json"}
 
 
 def test_what_has_one_owner_now_can_be_paid(copy: pathlib.Path, tmp_path: pathlib.Path, program: str) -> None:
     with open_copy(copy) as opened:
-        found = later(opened, Unclaimed(opened).items())
-    owned = {isrc: reckoning.unclaimed(pool)[isrc][1] for pool, isrc in ((1, "ATABC2600010"), (1, "ATABC2600020"), (3, "FREPS2600004"))}
+        found = later(opened, Unclaimed(opened).items(), stored_returns(opened), [])
+    owned = {
+        isrc: reckoning.unclaimed(quarter.OFFICE, pool)[isrc][1]
+        for pool, isrc in ((1, "ATABC2600010"), (1, "ATABC2600020"), (3, "FREPS2600004"))
+    }
     assert [(it.right, it.by_isrc) for it in found] == [("PR", owned)]
     run("unclaimed", copy, "--settle", tmp_path / "settle")
     rows = [it.split(",") for it in (tmp_path / "settle/PR.csv").read_text().splitlines()[1:]]

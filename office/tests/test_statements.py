@@ -1,10 +1,13 @@
 """Statements and parties, beside a reckoning of their own."""
 
 import collections
+import contextlib
 import csv
 import io
 import json
 import pathlib
+import sqlite3
+from collections.abc import Iterator
 
 import pytest
 import quarter
@@ -13,7 +16,16 @@ from click.testing import CliRunner
 from society_office import lines, order_output, parties, statement_output, statements
 from society_office.cli import main
 from society_office.copy import open_copy
+from society_office.records import sender_names
 from society_office.statements import Statements, folder_of
+
+
+@contextlib.contextmanager
+def changed(path: pathlib.Path) -> Iterator[sqlite3.Connection]:
+    """A copy that is changed by hand."""
+    with contextlib.closing(sqlite3.connect(path)) as database:
+        yield database
+        database.commit()
 
 
 def run(*words: object, status: int = 0, out: bool = False) -> str:
@@ -25,19 +37,21 @@ def run(*words: object, status: int = 0, out: bool = False) -> str:
 
 def test_the_office_credits_what_the_rules_say(copy: pathlib.Path) -> None:
     with open_copy(copy) as opened:
-        for pool in quarter.POOLS:
+        for pool in quarter.OFFICE.pools:
             found = list(opened.rows("SELECT isrc, account, units FROM credits WHERE pool = ? ORDER BY line", pool))
-            assert found == reckoning.credits(pool), pool
-        assert dict(opened.rows("SELECT account, units FROM balances")) == reckoning.balances()
+            assert found == reckoning.credits(quarter.OFFICE, pool), pool
+        assert dict(opened.rows("SELECT account, units FROM balances")) == reckoning.balances(quarter.OFFICE)
 
 
-@pytest.mark.parametrize("account", sorted(reckoning.balances()))
+@pytest.mark.parametrize("account", sorted(reckoning.balances(quarter.OFFICE)))
 def test_a_statement_has_every_credit(copy: pathlib.Path, account: str) -> None:
     with open_copy(copy) as opened:
         found = Statements(opened).of(account)
     lines = [(it.pool, it.right, it.isrc, it.title, it.work, it.publisher, it.units) for it in found.credits]
-    assert lines == reckoning.lines_of(account)
-    assert found.agrees and found.total == found.balance == reckoning.balances()[account]
+    assert lines == reckoning.lines_of(quarter.OFFICE, account)
+    assert found.agrees and found.total == found.balance == reckoning.balances(quarter.OFFICE)[account]
+    units = [it.units for it in found.by_work]
+    assert units == sorted(units, reverse=True)
     assert sum(it.units for it in found.by_pool) == sum(it.units for it in found.by_work) == found.total
 
 
@@ -45,7 +59,12 @@ def test_a_statement_has_every_credit(copy: pathlib.Path, account: str) -> None:
 def test_a_publishers_statement_has_what_its_works_earned(copy: pathlib.Path, sender: str) -> None:
     with open_copy(copy) as opened:
         found = Statements(opened).of(sender)
-    wanted = sorted((*it[:6], account, it[6]) for account in reckoning.balances() for it in reckoning.lines_of(account) if it[5] == sender)
+    wanted = sorted(
+        (*it[:6], account, it[6])
+        for account in reckoning.balances(quarter.OFFICE)
+        for it in reckoning.lines_of(quarter.OFFICE, account)
+        if it[5] == sender
+    )
     assert sorted(found.credits) == wanted
     assert found.name == quarter.NAMES[sender]
 
@@ -60,13 +79,18 @@ def every_statement_is_large(monkeypatch: pytest.MonkeyPatch) -> None:
 
 def earned_by(sender: str) -> list[tuple[int, str, str, str, str, str, str, int]]:
     """What a sender's works earned, with the account of each line."""
-    return [(*it[:6], account, it[6]) for account in reckoning.balances() for it in reckoning.lines_of(account) if it[5] == sender]
+    return [
+        (*it[:6], account, it[6])
+        for account in reckoning.balances(quarter.OFFICE)
+        for it in reckoning.lines_of(quarter.OFFICE, account)
+        if it[5] == sender
+    ]
 
 
 @pytest.mark.usefixtures("every_statement_is_large")
-@pytest.mark.parametrize("key", sorted([*reckoning.balances(), *quarter.NAMES]))
+@pytest.mark.parametrize("key", sorted([*reckoning.balances(quarter.OFFICE), *quarter.NAMES]))
 def test_a_large_statement_has_every_sum(copy: pathlib.Path, key: str) -> None:
-    wanted = earned_by(key) if key in quarter.NAMES else [(*it[:6], key, it[6]) for it in reckoning.lines_of(key)]
+    wanted = earned_by(key) if key in quarter.NAMES else [(*it[:6], key, it[6]) for it in reckoning.lines_of(quarter.OFFICE, key)]
     by_pool, by_work, by_account = collections.Counter(), collections.Counter(), collections.Counter()
     for pool, right, _, title, work, sender, account, units in wanted:
         by_pool[str(pool), right] += units
@@ -83,7 +107,7 @@ def test_a_large_statement_has_every_sum(copy: pathlib.Path, key: str) -> None:
         assert f"{len(wanted) - 1} more lines: society-office statement COPY {key}" in run("statement", copy, key, "--format", "html")
 
 
-@pytest.mark.parametrize("key", sorted([*reckoning.balances(), *quarter.NAMES]))
+@pytest.mark.parametrize("key", sorted([*reckoning.balances(quarter.OFFICE), *quarter.NAMES]))
 def test_a_csv_is_what_a_writer_of_csv_makes(copy: pathlib.Path, key: str, request: pytest.FixtureRequest) -> None:
     with open_copy(copy) as opened:
         wanted = statements.as_csv(Statements(opened).of(key).credits)
@@ -108,14 +132,27 @@ def test_unclaimed_money_of_very_many_recordings(copy: pathlib.Path, monkeypatch
 def test_since_a_pool(copy: pathlib.Path) -> None:
     with open_copy(copy) as opened:
         found = Statements(opened).of("I00000000295", 3)
-    assert [it.pool for it in found.credits] == [it[0] for it in reckoning.lines_of("I00000000295") if it[0] >= 3]
+    assert [it.pool for it in found.credits] == [it[0] for it in reckoning.lines_of(quarter.OFFICE, "I00000000295") if it[0] >= 3]
     assert found.agrees and found.total < (found.balance or 0)
 
 
-def test_a_balance_that_differs_is_said(copy: pathlib.Path) -> None:
-    import sqlite3
+@pytest.mark.usefixtures("every_statement_is_large")
+@pytest.mark.parametrize("key", ["I00000000295", quarter.ALPHA, "UNCLAIMED"])
+@pytest.mark.parametrize("since", [1, 2, 3, 4])
+def test_a_large_statement_since_a_pool(copy: pathlib.Path, key: str, since: int) -> None:
+    listed = earned_by(key) if key in quarter.NAMES else reckoning.lines_of(quarter.OFFICE, key)
+    wanted = sorted(it[0] for it in listed if it[0] >= since)
+    rows = list(csv.DictReader(io.StringIO(run("statement", copy, key, "--since", since, "--format", "csv"))))
+    assert sorted(int(it["pool"]) for it in rows) == wanted
+    with open_copy(copy) as opened:
+        found = Statements(opened).of(key, since)
+    assert found.sums.count == len(wanted) and sum(it.units for it in found.by_work) == found.total == sum(
+        it[-1] for it in listed if it[0] >= since
+    )
 
-    with sqlite3.connect(copy) as database:
+
+def test_a_balance_that_differs_is_said(copy: pathlib.Path) -> None:
+    with changed(copy) as database:
         database.execute("UPDATE balances SET units = units + 1 WHERE account = 'I00000000295'")
     assert "has credits of" in run("statement", copy, "I00000000295", status=1)
 
@@ -132,12 +169,21 @@ def test_the_forms_of_a_statement(copy: pathlib.Path, tmp_path: pathlib.Path) ->
 
 def test_all_statements(copy: pathlib.Path, tmp_path: pathlib.Path) -> None:
     run("statement", copy, "--all", "--into", tmp_path / "all")
-    balances = {key: units for key, units in reckoning.balances().items() if key != reckoning.NOBODY}
+    balances = {key: units for key, units in reckoning.balances(quarter.OFFICE).items() if key != reckoning.NOBODY}
     keys = {*balances, *quarter.NAMES}
     assert {it.name for it in (tmp_path / "all").iterdir()} == {folder_of(it) for it in keys}
     for account, balance in balances.items():
         rows = csv.DictReader(io.StringIO((tmp_path / "all" / folder_of(account) / "statement.csv").read_text()))
         assert sum(int(it["units"]) for it in rows) == balance
+
+
+def test_all_statements_of_balances_that_differ(copy: pathlib.Path, tmp_path: pathlib.Path) -> None:
+    with changed(copy) as database:
+        database.execute("UPDATE balances SET units = units + 1 WHERE account = 'I00000000295'")
+        database.execute("UPDATE balances SET units = units - 1 WHERE account = 'I00000000199'")
+    said = run("statement", copy, "--all", "--into", tmp_path / "all", status=1)
+    assert "I00000000295: " in said and "I00000000199: " in said and said.count("they differ") == 2
+    assert "they differ" in (tmp_path / "all/I00000000295/index.html").read_text()
 
 
 def test_a_key_that_is_none(copy: pathlib.Path) -> None:
@@ -148,6 +194,31 @@ def test_a_key_that_is_none(copy: pathlib.Path) -> None:
     assert "no pool has credited this account" in run("statement", copy, "I00000009999")
 
 
+def test_the_name_that_most_works_have_comes_first() -> None:
+    writings = collections.Counter(
+        {("ANNA W.", "writer"): 1, ("ANNA WRITER", "writer"): 2, ("ANNA WRITER", "publisher"): 1, ("", "writer"): 9}
+    )
+    found = parties.named("I00000000295", writings, 13)
+    assert (found.name, found.others, found.sides, found.works, found.ipi) == (
+        "ANNA WRITER",
+        ["ANNA W."],
+        ["publisher", "writer"],
+        13,
+        "00000000295",
+    )
+
+
+def test_the_name_of_a_sender_is_that_of_its_last_file(copy: pathlib.Path) -> None:
+    with changed(copy) as database:
+        [(body,)] = database.execute("SELECT body FROM transmissions WHERE sender = ? AND number = 1", (quarter.ALPHA,)).fetchall()
+        database.execute(
+            "UPDATE transmissions SET body = ? WHERE sender = ? AND number = 1",
+            (body.replace(b"ALPHA MUSIC", b"OLD MUSIC  ", 1), quarter.ALPHA),
+        )
+    with open_copy(copy) as opened:
+        assert sender_names(opened) == quarter.NAMES
+
+
 def test_parties(copy: pathlib.Path) -> None:
     with open_copy(copy) as opened:
         found = {it.account: it for it in parties.parties(opened)}
@@ -155,6 +226,6 @@ def test_parties(copy: pathlib.Path) -> None:
     assert found["I00000000555"].name == "ÖDÖN ÄRGER"
     assert found["PPB000000012B/7"].number == "B/7" and found["PPB000000012B/7"].sender == quarter.ALPHA
     assert json.loads(run("parties", copy, "--format", "json"))[0]["account"] == "I00000000199"
-    last = reckoning.versions({key: 9_999_999 for key in quarter.NAMES})
+    last = reckoning.versions(quarter.OFFICE, quarter.OFFICE.fronts())
     wanted = {reckoning.account(sender, it) for (sender, _), work in last.items() for it in work.parties}
     assert set(found) == wanted - {reckoning.NOBODY}

@@ -1,0 +1,118 @@
+"""The words of the commands that answer questions: how a credit came about, what balances are, and what bytes were sent."""
+
+import pathlib
+import sys
+
+import click
+
+from society_office import balances, explain_output
+from society_office.command_words import COPY_HELP, PATH, POOL, POOLS_HELP, noted
+from society_office.errors import OfficeError
+from society_office.explaining import Explainer
+from society_office.numbering import as_sent, rank_of
+from society_office.pages import write_bytes, write_text
+from society_office.pool_names import pool_names
+from society_office.program import open_whole
+from society_office.return_names import one_return
+from society_office.soundness import need_sound
+from society_office.terminal import console
+
+
+def write_out(text: str, output: pathlib.Path | None) -> None:
+    """Writes a text to a file, or to standard output."""
+    if output:
+        write_text(output, text)
+    else:
+        sys.stdout.write(text)
+
+
+def write_stored(body: bytes, output: pathlib.Path | None) -> None:
+    """Writes stored bytes to a file, or to standard output."""
+    if output:
+        write_bytes(output, body)
+    else:
+        sys.stdout.flush()
+        sys.stdout.buffer.write(body)
+
+
+@click.command(epilog=COPY_HELP, short_help="How an account's credits came about.")
+@click.argument("copy", type=PATH)
+@click.argument("account")
+@click.option("--pool", type=POOL, required=True, metavar="POOL", help="The pool.")
+@click.option("--isrc", metavar="ISRC", help="Only this recording.")
+@click.option("--format", "form", type=click.Choice(["table", "csv", "json"]), default="table", help="How it is written.")
+@click.option("--output", type=PATH, help="The file to write; without it, standard output.")
+@click.option("--pools", type=PATH, metavar="FILE", help=POOLS_HELP)
+def explain(
+    copy: pathlib.Path,
+    account: str,
+    pool: int,
+    isrc: str | None,
+    form: str,
+    output: pathlib.Path | None,
+    pools: pathlib.Path | None,
+) -> None:
+    """How each credit of an account in a pool came about.
+
+    The plays of its recording by station and return, the recording's part of the pool, whose work it is, the account's share, and who
+    got the last units. It is reckoned again from returns, works and the order; where the credits are others, that is said, with status 1.
+    """
+    wanted = isrc.upper().replace("-", "") if isrc and isrc != "-" else isrc
+    names = pool_names(copy, pools)
+    with open_whole(copy) as opened:
+        found = Explainer(noted(opened), pool).of(account, wanted)
+    if form == "table" and output is None:
+        explain_output.show(found, names, console())
+        return
+    write_out(explain_output.FORMS[form](found, names), output)
+
+
+@click.command("balances", epilog=COPY_HELP, short_help="What each account has, by pool and right.")
+@click.argument("copy", type=PATH)
+@click.option("--format", "form", type=click.Choice(["csv", "json", "ledger"]), default="csv", help="How it is written.")
+@click.option("--output", type=PATH, help="The file to write; without it, standard output.")
+@click.option("--pools", type=PATH, metavar="FILE", help=POOLS_HELP)
+def list_balances(copy: pathlib.Path, form: str, output: pathlib.Path | None, pools: pathlib.Path | None) -> None:
+    """What each account was credited, by pool and right, so that its lines add up to its balance.
+
+    As ledger it is a journal for ledger and hledger, with a transaction for each pool.
+    """
+    names = pool_names(copy, pools)
+    with open_whole(copy) as opened:
+        need_sound(noted(opened), sums=True)
+        text = balances.FORMS[form](balances.read(opened), names, opened)
+    write_out(text, output)
+
+
+@click.command(epilog=COPY_HELP, short_help="The bytes of a return.")
+@click.argument("copy", type=PATH)
+@click.argument("name", metavar="REPORTER/N")
+@click.option("--output", type=PATH, help="The file to write; without it, standard output.")
+def returned(copy: pathlib.Path, name: str, output: pathlib.Path | None) -> None:
+    """The bytes of a return as they were sent, say RADIO1/3."""
+    reporter, number = one_return(name)
+    with open_whole(copy) as opened:
+        row = noted(opened).row("SELECT body FROM returns WHERE reporter = ? AND number = ?", reporter, number)
+    if row is None:
+        raise OfficeError(f"{copy} has no return {reporter}/{number}")
+    write_stored(bytes(row[0]), output)
+
+
+@click.command("file", epilog=COPY_HELP, short_help="The bytes of a file of works.")
+@click.argument("copy", type=PATH)
+@click.argument("sender")
+@click.argument("number", metavar="N")
+@click.option("--output", type=PATH, help="The file to write; without it, standard output.")
+def give_file(copy: pathlib.Path, sender: str, number: str, output: pathlib.Path | None) -> None:
+    """The bytes of a sender's file as they were sent: N is its number, as 7 or 26-0001."""
+    rank = rank_of(number)
+    if rank is None or as_sent(rank) != number:
+        raise OfficeError(f"{number!r} is no number of a file: write 7 or 26-0001")
+    with open_whole(copy) as opened:
+        row = noted(opened).row("SELECT body FROM transmissions WHERE sender = ? AND number = ?", sender, rank)
+    if row is None:
+        raise OfficeError(f"{copy} has no file {number} of {sender}")
+    write_stored(bytes(row[0]), output)
+
+
+COMMANDS = (explain, list_balances, returned, give_file)

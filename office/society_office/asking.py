@@ -1,0 +1,131 @@
+"""Many requests to one office: over a few connections, again where it has no room or the connection breaks, with a password of .netrc."""
+
+import dataclasses
+import itertools
+import netrc
+import pathlib
+import queue
+import ssl
+import time
+import urllib.parse
+from collections.abc import Iterable, Iterator
+from concurrent.futures import ThreadPoolExecutor
+from typing import Any
+
+from society_office.errors import OfficeError
+from society_office.faults import NOT_TAKEN
+from society_office.program import Answer, Office
+
+# What is asked again: the office had no memory or disk for it, or the proxy had too many requests, or no office behind it.
+AGAIN = (502, 503, 504)
+# Seconds between one time and the next.
+FIRST_PAUSE, LONGEST_PAUSE = 0.05, 5.0
+# After so many requests a connection is given up, since an office without a proxy serves nobody else meanwhile.
+ON_ONE_CONNECTION = 500
+# So many requests of a connection are at hand at once.
+AT_HAND = 4
+FEW = 4
+
+
+@dataclasses.dataclass(frozen=True)
+class Request:
+    """A request: of which kind it is, its path behind /v1/, and what it puts; None where it asks."""
+
+    kind: str
+    path: str
+    body: bytes | None = None
+
+
+class PatientOffice:
+    """An office that is asked again, for some seconds, where there was no answer or none that counts."""
+
+    def __init__(self, office: Office, seconds: float) -> None:
+        self.office, self.seconds, self.asked, self.is_stopped = office, seconds, 0, False
+
+    def ask(self, it: Request) -> Answer:
+        """The answer to a request; an OfficeError where none came in time, or the user is refused."""
+        if self.asked and self.asked % ON_ONE_CONNECTION == 0:
+            self.office.close()
+        self.asked += 1
+        until, pause = time.monotonic() + self.seconds, FIRST_PAUSE
+        while isinstance(said := self.once(it), str):
+            if self.is_stopped or time.monotonic() + pause > until:
+                raise OfficeError(f"{said}. What was sent stays: run it again")
+            time.sleep(pause)
+            pause = min(2 * pause, LONGEST_PAUSE)
+        if said.status in (401, 403):
+            raise OfficeError(f"{self.office.address}: {NOT_TAKEN[said.status]} (--netrc)")
+        return said
+
+    def once(self, it: Request) -> Answer | str:
+        """The answer, or why it is to be asked again."""
+        try:
+            answer = self.office.ask("GET" if it.body is None else "PUT", f"/v1/{it.path}", it.body)
+        except OfficeError as error:
+            if isinstance(error.__cause__, ssl.SSLCertVerificationError):
+                raise
+            return str(error)
+        if answer.status in AGAIN:
+            return f"{self.office.address} answers {answer.status} to {it.path}"
+        return answer
+
+
+class Connections:
+    """A few connections to one office, over which many requests go."""
+
+    def __init__(self, address: str, seconds: float, count: int = 0, **access: Any) -> None:
+        """Without a count it is one to an office itself, which serves one at a time, and a few to a proxy (https)."""
+        is_proxy = address.startswith("https:")
+        self.address, self.count = address, count or (FEW if is_proxy else 1)
+        # (an office itself would wait for the next request of one connection, while the others wait for it)
+        self.keeps = is_proxy or self.count == 1
+        self.offices = [PatientOffice(Office(address, **access), seconds) for _ in range(self.count)]
+        self.free = queue.SimpleQueue[PatientOffice]()
+        for it in self.offices:
+            self.free.put(it)
+
+    def ask(self, it: Request) -> Answer:
+        """The answer to one request, over a connection that is free."""
+        office = self.free.get()
+        try:
+            return office.ask(it)
+        finally:
+            if not self.keeps:
+                office.office.close()
+            self.free.put(office)
+
+    def answers(self, requests: Iterable[Request]) -> Iterator[tuple[Request, Answer]]:
+        """Each request with its answer, in their order; only a few bodies are in memory at a time."""
+        coming = iter(requests)
+        threads = ThreadPoolExecutor(self.count)
+        try:
+            while some := list(itertools.islice(coming, AT_HAND * self.count)):
+                yield from zip(some, map(self.ask, some) if self.count == 1 else threads.map(self.ask, some))
+        except (Exception, KeyboardInterrupt):
+            self.stop()
+            raise
+        finally:
+            threads.shutdown(cancel_futures=True)
+
+    def stop(self) -> None:
+        """What is under way ends soon, as where the command is broken off."""
+        for it in self.offices:
+            it.is_stopped = True
+            it.office.break_off()
+
+    def close(self) -> None:
+        """Ends all connections, so that others are served."""
+        for it in self.offices:
+            it.office.close()
+
+
+def access_by_netrc(address: str, file: pathlib.Path | None) -> dict[str, str]:
+    """The user and the password that a file such as ~/.netrc has for the host of an address; an OfficeError where it has none."""
+    host = urllib.parse.urlsplit(address).hostname or ""
+    try:
+        found = netrc.netrc(str(file) if file else None).authenticators(host)
+    except netrc.NetrcParseError as error:
+        raise OfficeError(f"{error.filename}, line {error.lineno}: {error.msg}") from error
+    if found is None:
+        raise OfficeError(f"{file or '~/.netrc'} has no entry for {host}")
+    return {"user": found[0], "password": found[2] or ""}

@@ -1,0 +1,122 @@
+"""The files of an office: whether the one that runs writes what its path names, and the log is whole. Scripts use it by `python3 -m`."""
+
+import contextlib
+import os
+import pathlib
+import sqlite3
+import sys
+import time
+from collections.abc import Callable, Iterator
+
+from society_office import book_log
+from society_office.errors import OfficeError
+
+PROCESSES = pathlib.Path("/proc")
+# How often, and after how many seconds, an office that has a file not open is looked at again: it may be just starting or ending.
+TRIES, PAUSE = 5, 0.2
+USAGE = """usage: python3 -m society_office.book_files check DATABASE
+       python3 -m society_office.book_files log LOG
+       python3 -m society_office.book_files join DATABASE LOG TARGET
+       python3 -m society_office.book_files write-log DATABASE TARGET
+       python3 -m society_office.book_files office DATABASE"""
+
+
+def log_of(database: pathlib.Path) -> pathlib.Path:
+    """The log's path."""
+    return database.with_name(database.name + "-wal")
+
+
+def named_database(process: pathlib.Path) -> pathlib.Path | None:
+    """The file that a process was told to serve by `--db`; None where it is no office."""
+    words = [os.fsdecode(it) for it in (process / "cmdline").read_bytes().split(b"\0")]
+    if not (process / "comm").read_text().startswith("society") or "serve" not in words:
+        return None
+    named = [after for word, after in zip(words, words[1:]) if word == "--db"]
+    named += [it.removeprefix("--db=") for it in words if it.startswith("--db=")]
+    return pathlib.Path(os.readlink(process / "cwd"), named[0]).resolve() if named else None
+
+
+def offices(database: pathlib.Path) -> Iterator[pathlib.Path]:
+    """The processes, as folders of /proc, that were started to serve a file; those that may not be looked at are passed over."""
+    for process in PROCESSES.glob("[0-9]*"):
+        with contextlib.suppress(OSError):
+            if named_database(process) == database.resolve():
+                yield process
+
+
+def has_open(process: pathlib.Path, path: pathlib.Path) -> bool:
+    """Whether a process has this very file open, and not another one that had its name before."""
+    wanted = path.stat() if path.exists() else None
+    for link in (process / "fd").iterdir():
+        with contextlib.suppress(OSError):
+            if wanted is not None and os.path.samestat(link.stat(), wanted):
+                return True
+    return False
+
+
+def unwritten(database: pathlib.Path) -> tuple[str, pathlib.Path] | None:
+    """An office's process and a file that it should write and has not open."""
+    for process in offices(database):
+        for path in database.resolve(), log_of(database.resolve()):
+            with contextlib.suppress(FileNotFoundError):
+                if not has_open(process, path):
+                    return process.name, path
+    return None
+
+
+def fault_of_files(database: pathlib.Path) -> str:
+    """What is wrong with the files that an office writes, in words, or the empty text."""
+    tries = TRIES
+    while (found := unwritten(database)) is not None and tries:
+        time.sleep(PAUSE)
+        tries -= 1
+    if found is None:
+        return book_log.fault_of_log(log_of(database))
+    process, path = found
+    return (
+        f"the office, process {process}, does not write {path}: it was moved, removed or put there while the office ran, "
+        f"and what is answered goes into another file, which ls -l /proc/{process}/fd names"
+    )
+
+
+def office_words(database: pathlib.Path) -> list[str]:
+    """The options that name a file's office; an OfficeError where it has none."""
+    try:
+        with contextlib.closing(sqlite3.connect(f"{database.resolve().as_uri()}?mode=ro&immutable=1", uri=True)) as it:
+            society, territory, name = it.execute("SELECT society, territory, name FROM office").fetchone()
+    except (sqlite3.DatabaseError, TypeError) as error:
+        raise OfficeError(f"{database} holds no office") from error
+    return ["--society", str(society), "--territory", str(territory), f"--name={name}"]
+
+
+def refuse(fault: str) -> None:
+    """An OfficeError where there is a fault."""
+    if fault:
+        raise OfficeError(fault)
+
+
+COMMANDS: dict[str, tuple[int, Callable[..., object]]] = {
+    "check": (1, lambda database: refuse(fault_of_files(database))),
+    "log": (1, lambda log: refuse(book_log.fault_of_log(log))),
+    "join": (3, book_log.join),
+    "write-log": (2, book_log.write_log),
+    "office": (1, lambda database: print("\n".join(office_words(database)))),
+}
+
+
+def main(words: list[str]) -> int:
+    """Runs a command for a script: status 1 and a line on standard error where something is wrong."""
+    count, command = COMMANDS.get(words[0] if words else "", (-2, print))
+    if len(words) != count + 1:
+        print(USAGE, file=sys.stderr)
+        return 2
+    try:
+        command(*map(pathlib.Path, words[1:]))
+    except (OfficeError, OSError) as error:
+        print(error, file=sys.stderr)
+        return 1
+    return 0
+
+
+if __name__ == "__main__":
+    sys.exit(main(sys.argv[1:]))

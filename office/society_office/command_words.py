@@ -1,0 +1,39 @@
+"""What commands have in common: words that several of them take, and how they end where something is wrong."""
+
+import pathlib
+import sys
+from typing import NoReturn
+
+import click
+
+from society_office.copy import Copy
+from society_office.orders import LAST_POOL
+from society_office.return_names import Entry, listed
+from society_office.terminal import say
+
+WRONG = 1
+PATH = click.Path(path_type=pathlib.Path)
+POOL = click.IntRange(1, LAST_POOL)
+COPY_HELP = "COPY is a copy of the office's file, as the nightly backup makes it: one file, which no office has open."
+VOID_HELP = "A list of returns never to be named (default: void.txt beside COPY)."
+POOLS_HELP = "A list of names and periods of pools (default: pools.txt beside COPY)."
+PROGRAM_HELP = "The program (default: `society` on the PATH)."
+
+
+def fail(line: str) -> NoReturn:
+    """Ends the command with a line."""
+    say(f"society-office: {line}", error=True)
+    sys.exit(WRONG)
+
+
+def noted(copy: Copy) -> Copy:
+    """The copy, after what has to be said of it was said."""
+    if copy.note:
+        say(f"society-office: {copy.note}", error=True)
+    return copy
+
+
+def void_list(copy: pathlib.Path, named: pathlib.Path | None) -> list[Entry]:
+    """The returns never to be named: those of the list that is named, else of void.txt beside the copy."""
+    beside = copy.with_name("void.txt")
+    return listed(named or beside) if named or beside.exists() else []

@@ -1,0 +1,66 @@
+"""Names and periods of pools, out of pools.txt beside a copy: `3 2026-01-01/2026-03-31 First quarter` in a line."""
+
+import dataclasses
+import datetime
+import pathlib
+import re
+
+from society_office.errors import OfficeError
+from society_office.word_lists import entries_of
+
+FILE = "pools.txt"
+ENTRY = re.compile(r"([1-9][0-9]{0,4}) +([0-9]{4}-[0-9]{2}-[0-9]{2})/([0-9]{4}-[0-9]{2}-[0-9]{2}) +(.+)", re.ASCII)
+FORM = "write a pool, its first and last day, and its name: 3 2026-01-01/2026-03-31 First quarter"
+
+
+@dataclasses.dataclass(frozen=True)
+class PoolName:
+    """What a pool is called, and the days whose plays it pays."""
+
+    name: str
+    first: datetime.date
+    last: datetime.date
+
+    @property
+    def period(self) -> str:
+        """Its days in words."""
+        return f"{self.first} to {self.last}"
+
+    @property
+    def words(self) -> str:
+        """Both."""
+        return f"{self.name}, {self.period}"
+
+
+# The pools that have a name.
+PoolNames = dict[int, PoolName]
+
+
+def pool_names(copy: pathlib.Path, named: pathlib.Path | None = None) -> PoolNames:
+    """The names of a list, else of pools.txt beside the copy; an OfficeError with the line of what is none, or is there twice."""
+    beside = copy.with_name(FILE)
+    found: PoolNames = {}
+    for where, words in entries_of(named or beside) if named or beside.exists() else ():
+        entry = ENTRY.fullmatch(words)
+        if not entry or not entry[4].isprintable():
+            raise OfficeError(f"{where}: {words!r} names no pool: {FORM}")
+        pool, first, last = int(entry[1]), day(where, entry[2]), day(where, entry[3])
+        if last < first:
+            raise OfficeError(f"{where}: the period {entry[2]}/{entry[3]} ends before it begins")
+        if pool in found:
+            raise OfficeError(f"{where}: pool {pool} has a name already, {found[pool].name}")
+        found[pool] = PoolName(entry[4], first, last)
+    return found
+
+
+def day(where: str, words: str) -> datetime.date:
+    """A day of the calendar."""
+    try:
+        return datetime.date.fromisoformat(words)
+    except ValueError as error:
+        raise OfficeError(f"{where}: {words} is no day of the calendar") from error
+
+
+def pool_text(names: PoolNames, pool: int) -> str:
+    """A pool as it is told of: `pool 3`, or `pool 3 (First quarter, 2026-01-01 to 2026-03-31)`."""
+    return f"pool {pool} ({names[pool].words})" if pool in names else f"pool {pool}"

@@ -1,0 +1,62 @@
+"""What has one owner now, as it is printed, and the returns and orders that pay it, as they are written."""
+
+import pathlib
+
+from rich.console import Console
+
+from society_office.copy import Copy
+from society_office.follow_ups import SETTLED
+from society_office.order_output import MOST_ROWS
+from society_office.pages import write_text
+from society_office.return_names import Entry
+from society_office.settling import MAY_BE_OWNED, Round, later, left_out, next_number, refuse_open, rounds
+from society_office.stored_returns import stored_returns
+from society_office.terminal import say, table
+from society_office.unclaimed import BOOKING, Item
+
+
+def write_rounds(copy: Copy, items: list[Item], void: list[Entry], folder: pathlib.Path) -> None:
+    """Writes the returns and orders that pay what has one owner now into a folder."""
+    stored = stored_returns(copy)
+    found = later(copy, items, stored, void)
+    for it in rounds(copy, found, next_number(stored)):
+        write_round(folder, it)
+    if not found:
+        say("nothing is left that has one owner now: nothing was written", error=True)
+
+
+def show_later(out: Console, copy: Copy, items: list[Item], void: list[Entry]) -> None:
+    """Prints what has one owner now, and what of it is left to `correct`."""
+    stored = stored_returns(copy)
+    for it in later(copy, items, stored, void):
+        out.print()
+        out.print(f"{it.units:,} units of the {it.right} pools have one owner now:")
+        rows = list(it.by_isrc.items())
+        if len(rows) > MOST_ROWS:
+            out.print(f"the first {MOST_ROWS:,} of {len(rows):,} stand here: `--settle` writes every one of them")
+        out.print(table(["ISRC", "units"], rows[:MOST_ROWS], ["units"]))
+    for pool, units in left_out(items, stored).items():
+        out.print()
+        out.print(f"{units:,} units of pool {pool} have one owner now; it was corrected: `correct` with a later cut credits what they lack")
+    if any(it.cause in MAY_BE_OWNED for it in items):
+        out.print()
+        out.print(BOOKING)
+
+
+def refuse_second_round(copy: Copy, void: list[Entry]) -> None:
+    """An OfficeError where a round of settling waits for its pool."""
+    refuse_open(stored_returns(copy), void, SETTLED)
+
+
+def write_round(folder: pathlib.Path, it: Round) -> None:
+    """Writes the returns and the order of a round, and says where they go."""
+    where = []
+    for place, (number, text) in enumerate(it.returns, 1):
+        file = folder / (f"{it.right}.csv" if place == 1 else f"{it.right}-{place}.csv")
+        write_text(file, text)
+        where.append(f"{file} goes to returns/{SETTLED}/{number}")
+    order = folder / f"{it.right}.json"
+    write_text(order, it.order.json + "\n")
+    say(f"{', '.join(where)}, then {order} to the next free pool", error=True)
+    if it.left:
+        say(f"{it.left:,} units more are left for a further round: an order credits no more", error=True)

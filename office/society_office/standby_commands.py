@@ -1,0 +1,126 @@
+"""The words of the commands about a second office: whether two are the same, sending what one lacks, and rebuilding one."""
+
+import pathlib
+import sys
+from typing import Any
+
+import click
+
+from society_office import rebuilding
+from society_office.asking import Connections, access_by_netrc
+from society_office.command_words import COPY_HELP, PATH, PROGRAM_HELP, WRONG, noted
+from society_office.comparing import Difference, compare, summary
+from society_office.comparing_answers import ALL_WORKS, compare_answers
+from society_office.copy import open_copy
+from society_office.program import find_program, open_whole, trial_of
+from society_office.resending import how_many, resend
+from society_office.terminal import counting, doing, say
+
+ACCESS = (
+    click.option("--netrc", "by_netrc", is_flag=True, help="The user and the password stand in ~/.netrc, as curl has it."),
+    click.option("--netrc-file", type=PATH, metavar="FILE", help="They stand in this file."),
+    click.option("--authority", metavar="FILE", help="The certificate to trust, where it is no public one."),
+    click.option("--connections", type=click.IntRange(0, 32), default=0, metavar="N", help="So many at a time (default: 1, with https 4)."),
+    click.option("--wait", default=60.0, metavar="SECONDS", help="So long it is asked again where there is no answer (default: 60)."),
+)
+
+
+def with_access(command: Any) -> Any:
+    """A command with the options of an office that is asked."""
+    for option in reversed(ACCESS):
+        command = option(command)
+    return command
+
+
+def connected(
+    address: str, by_netrc: bool, netrc_file: pathlib.Path | None, authority: str | None, connections: int, wait: float
+) -> Connections:
+    """The office at an address."""
+    access: dict[str, Any] = access_by_netrc(address, netrc_file) if by_netrc or netrc_file else {}
+    return Connections(address, wait, connections, authority=authority, **access)
+
+
+def tell_differences(found: list[Difference], names: tuple[str, str]) -> None:
+    """A line for each kind that differs, and status 1."""
+    for it in found:
+        say(it.line(names))
+    sys.exit(WRONG)
+
+
+@click.command("compare", epilog=COPY_HELP, short_help="Whether two offices are the same.")
+@click.argument("copy", type=PATH)
+@click.argument("other", metavar="COPY|URL")
+@click.option(
+    "--works",
+    type=click.IntRange(min=0),
+    default=ALL_WORKS,
+    metavar="N",
+    help="Of each file an office is asked for so many works (default: all).",
+)
+@with_access
+def tell_differs(copy: pathlib.Path, other: str, works: int, **access: Any) -> None:
+    """Whether two offices hold the same book and answer the same.
+
+    Of two copies all rows are compared. An office at a URL is asked, and so is the program over the copy, for fronts, held numbers,
+    verdicts, acknowledgements, works, credits and balances, as far as the copy knows of them: ends, returns and orders an office
+    does not tell, but `resend` finds out. Of each kind that differs the first difference is told, and how many there are; then the status
+    is 1.
+    """
+    names = (str(copy), other)
+    if other.startswith(("http://", "https://")):
+        with open_whole(copy) as opened, trial_of(find_program(), noted(opened)) as trial, doing(f"asking {other}"):
+            trial.office.close()
+            count, found = compare_answers(opened, Connections(trial.office.address, 0), connected(other, **access), works)
+            same = f"{copy} and {other} give the same answers to {count:,} questions"
+    else:
+        with open_whole(copy) as opened, open_whole(pathlib.Path(other)) as second, doing("comparing"):
+            found = compare(noted(opened), noted(second))
+            same = f"{copy} and {other} are the same: {summary(opened)}"
+    if found:
+        tell_differences(found, names)
+    say(same)
+
+
+@click.command("resend", epilog=COPY_HELP, short_help="Sends what a copy has to another office.")
+@click.argument("copy", type=PATH)
+@click.option("--to", "address", required=True, metavar="URL", help="The office that gets it, as http://127.0.0.1:8080.")
+@click.option("--since-fronts", is_flag=True, help="Sends only files above its fronts, and returns that none of its pools has paid.")
+@with_access
+def send_again(copy: pathlib.Path, address: str, since_fronts: bool, **access: Any) -> None:
+    """Sends all that a copy has of what was sent to another office: ends, files, returns, orders.
+
+    What it has already changes nothing, so where it was broken off run it again. It tells how much was new to the other office, how much
+    it knew, and what it refused and why; then the status is 1.
+    """
+    with open_copy(copy) as opened:
+        office = connected(address, **access)
+        try:
+            with counting("sent", how_many(noted(opened))) as tell:
+                found = resend(opened, office, since_fronts, tell)
+        finally:
+            office.close()
+    for line in found.lines():
+        say(line)
+    if found.refused:
+        sys.exit(WRONG)
+
+
+@click.command(epilog=COPY_HELP, short_help="Whether a book follows from what was sent.")
+@click.argument("copy", type=PATH)
+@click.option("--program", metavar="FILE", help=PROGRAM_HELP)
+def rebuild(copy: pathlib.Path, program: str | None) -> None:
+    """Whether the book of a copy follows from what was sent.
+
+    The program begins an empty office in a temporary folder, all that the copy has is sent to it, and both are compared. A copy of layout
+    1 or 2 is compared as the program takes it over.
+    """
+    with open_copy(copy) as opened, counting("rebuilt", how_many(noted(opened))) as tell:
+        tally, found, held = rebuilding.rebuild(opened, find_program(program), tell)
+    if tally.refused or found:
+        for line in tally.lines():
+            say(line)
+        tell_differences(found, (str(copy), "the rebuilt office"))
+    say(f"{copy} follows from what was sent: {held}")
+
+
+COMMANDS = (tell_differs, send_again, rebuild)

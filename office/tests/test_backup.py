@@ -1,0 +1,63 @@
+"""A copy for a group, which is placed where its members may read it."""
+
+import grp
+import os
+import pathlib
+import shutil
+import subprocess
+import sys
+import tempfile
+from collections.abc import Iterator
+
+import pytest
+from conftest import ROOT
+
+BACKUP = ROOT / "debian/bin/society-backup"
+NOBODY = 65_534
+
+
+@pytest.fixture
+def open_folder() -> Iterator[pathlib.Path]:
+    """A folder that every user may pass through."""
+    with tempfile.TemporaryDirectory() as name:
+        os.chmod(name, 0o755)
+        yield pathlib.Path(name)
+
+
+def backed_up(database: pathlib.Path, folder: pathlib.Path, program: str, *words: str) -> subprocess.CompletedProcess[str]:
+    command = [BACKUP, "--db", database, "--to", folder / "backups", "--program", program, *words]
+    return subprocess.run(command, capture_output=True, text=True, check=False)
+
+
+def own_group() -> str:
+    """A group that this user can give a file to, for root another one than its own."""
+    return (
+        next(it.gr_name for it in grp.getgrall() if it.gr_gid not in (0, NOBODY)) if os.getuid() == 0 else grp.getgrgid(os.getgid()).gr_name
+    )
+
+
+def test_a_copy_for_a_group(copy: pathlib.Path, open_folder: pathlib.Path, program: str) -> None:
+    database, place, group = pathlib.Path(shutil.copy(copy, open_folder / "office.db")), open_folder / "staff", own_group()
+    for _ in range(2):
+        done = backed_up(database, open_folder, program, "--group", group, "--place", str(place))
+        assert (done.returncode, done.stderr) == (0, "")
+    gid = grp.getgrnam(group).gr_gid
+    [made] = sorted((open_folder / "backups").glob("*.db"))[-1:]
+    assert (place / "copy.db").read_bytes() == made.read_bytes() and [it.name for it in place.iterdir()] == ["copy.db"]
+    assert [(it.stat().st_gid, it.stat().st_mode & 0o777) for it in (place, place / "copy.db")] == [(gid, 0o750), (gid, 0o640)]
+    if os.getuid() == 0:
+        shutil.copytree(ROOT / "office/society_office", open_folder / "society_office")
+        words = [sys.executable, "-c", "from society_office.cli import main; main()", "parties", place / "copy.db"]
+        for groups, status in (([gid], 0), ([], 1)):
+            ran = subprocess.run(words, cwd=open_folder, user=NOBODY, group=NOBODY, extra_groups=groups, capture_output=True, check=False)
+            assert ran.returncode == status, ran.stderr
+
+
+def test_no_copy_for_a_group_that_is_none(copy: pathlib.Path, tmp_path: pathlib.Path, program: str) -> None:
+    done = backed_up(copy, tmp_path, program, "--group", "no-such-group", "--place", str(tmp_path / "staff"))
+    assert (done.returncode, done.stderr) == (1, "backup: FAILED: there is no group no-such-group\n")
+    assert not (tmp_path / "staff").exists() and not (tmp_path / "backups").exists()
+    assert backed_up(copy, tmp_path, program, "--place", str(tmp_path / "staff")).returncode == 2
+    (tmp_path / "file").touch()
+    done = backed_up(copy, tmp_path, program, "--group", own_group(), "--place", str(tmp_path / "file"))
+    assert done.returncode == 1 and "is there, but it could not be put into" in done.stderr.splitlines()[-1]

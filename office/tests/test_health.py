@@ -1,0 +1,93 @@
+"""Whether the office is well."""
+
+import json
+import os
+import pathlib
+import re
+import shutil
+import subprocess
+import time
+
+import pytest
+import quarter
+from conftest import running
+from society_office import health
+from society_office.health import GOOD, WARNING, WRONG, Limits, Looked
+from society_office.program import free_port
+from test_statements import changed, run
+
+HOUR, MONTH = 3_600, 30 * 86_400
+
+
+def certificate_in(folder: pathlib.Path) -> pathlib.Path:
+    """A certificate that ends in 20 days."""
+    key, certificate = folder / "it.key", folder / "it.crt"
+    words = ["req", "-x509", "-newkey", "rsa:2048", "-nodes", "-keyout", key, "-out", certificate, "-days", "20", "-subj", "/CN=it"]
+    subprocess.run(["openssl", *words], check=True, capture_output=True)
+    return certificate
+
+
+def test_health(copy: pathlib.Path, tmp_path: pathlib.Path, program: str) -> None:
+    port, backups, state = free_port(), tmp_path / "backups", tmp_path / "state.json"
+    backups.mkdir()
+    backup = backups / "office-1.db"
+    backup.write_bytes(copy.read_bytes())
+    words = ["health", "--office", f"http://127.0.0.1:{port}", "--disk", tmp_path, "--backups", backups, "--state", state]
+    words += ["--certificate", certificate_in(tmp_path), "--program", program, "--free", "0", "--seconds", "60"]
+    with running(program, copy, port, "--existing", "--connections", "100"):
+        found = json.loads(run(*words, "--json"))
+        assert found["state"] == "good"
+        assert [it["name"] for it in found["findings"]] == ["answer", "fronts", "disk", "backup", "sound", "certificate"]
+        assert json.loads(state.read_text())["fronts"][quarter.BETA] == 1_260_002
+        assert 'society_state{of="certificate"} 0' in run(*words, "--metrics")
+        state.write_text(json.dumps({"fronts": {quarter.ALPHA: 9}, "sound": {}}))
+        os.utime(backup, (time.time() - MONTH,) * 2)
+        said = run(*words, status=2, out=True)
+        assert f"{quarter.ALPHA} had 9 and has 3" in said and re.search(r"WRONG +backup +the newest backup, office-1.db, is 720", said)
+        assert json.loads(state.read_text())["fronts"] == {quarter.ALPHA: 9}
+    backup.write_bytes(copy.read_bytes()[:9_000])
+    said = run(*words, status=2, out=True)
+    assert "no answer from" in said and re.search("WRONG +sound", said)
+
+
+@pytest.mark.parametrize("free, state", [(11, GOOD), (10, GOOD), (9, WARNING), (5, WARNING), (4, WRONG)])
+def test_the_free_part_of_a_disk(free: int, state: int, tmp_path: pathlib.Path, monkeypatch: pytest.MonkeyPatch) -> None:
+    monkeypatch.setattr(shutil, "disk_usage", lambda _: shutil._ntuple_diskusage(100, 100 - free, free))  # type: ignore[attr-defined]
+    found = health.look_at_disk(Looked("http://x", disk=tmp_path), Limits(disk=10))
+    assert (found.state, found.value) == (state, free) and f"{free} % of the disk" in found.words
+
+
+@pytest.mark.parametrize("hours, state", [(29, GOOD), (31, WARNING), (59, WARNING), (61, WRONG)])
+def test_the_age_of_the_newest_backup(hours: int, state: int, tmp_path: pathlib.Path) -> None:
+    for name, age in (("a.db", hours + 99), ("b.db", hours), ("c.db", hours + 98)):
+        (tmp_path / name).touch()
+        os.utime(tmp_path / name, (time.time() - age * HOUR,) * 2)
+    found = health.look_at_backup(Looked("http://x", backups=tmp_path), Limits(backup=30))
+    assert found.state == state and f"b.db, is {hours}.0 hours old" in found.words
+
+
+@pytest.mark.parametrize("value, above, below", [(5, GOOD, GOOD), (5.1, WARNING, GOOD), (10, WARNING, GOOD), (10.1, WRONG, GOOD)])
+def test_a_number_beside_its_limit(value: float, above: int, below: int) -> None:
+    assert health.judged(value, 5, True) == above and health.judged(value, 5, False) == below
+
+
+def test_fronts_are_kept_at_their_greatest(copy: pathlib.Path, tmp_path: pathlib.Path) -> None:
+    shutil.copy(copy, tmp_path / "office.db")
+    known = health.known_fronts(Looked("http://x", backups=tmp_path), {quarter.ALPHA: 9, quarter.BETA: 1})
+    assert (known[quarter.ALPHA], known[quarter.BETA], known[quarter.DELTA]) == (9, 1_260_002, 2)
+    found = health.compared(known, {**known, quarter.ALPHA: 8}, tmp_path / "state.json")
+    assert found.state == WRONG and f"{quarter.ALPHA} had 9 and has 8" in found.words and f"take {tmp_path}/state.json away" in found.words
+    assert health.compared(known, {**known, quarter.ALPHA: 10}, None).state == GOOD
+
+
+def test_a_backup_is_audited_once(copy: pathlib.Path, tmp_path: pathlib.Path, program: str) -> None:
+    (tmp_path / "backups").mkdir()
+    backup = pathlib.Path(shutil.copy(copy, tmp_path / "backups/office-1.db"))
+    looked, kept = Looked("http://x", backups=tmp_path / "backups", program=program), dict[str, object]()
+    assert health.look_into_backup(looked, kept).state == GOOD
+    kept["status"] = 3
+    assert health.look_into_backup(looked, kept).state == WRONG
+    with changed(backup) as database:
+        database.execute("UPDATE credits SET units = units + 1 WHERE units > 0")
+    found = health.look_into_backup(looked, kept)
+    assert found.state == WRONG and "says of office-1.db" in found.words and kept["status"] not in (0, 3)

@@ -1,0 +1,36 @@
+"""What an order may have at most."""
+
+import json
+import pathlib
+
+import pytest
+from click.testing import CliRunner
+from society_office import orders
+from society_office.cli import main
+from test_statements import changed, run
+
+
+def test_an_order_names_no_more_returns_than_it_may(copy: pathlib.Path) -> None:
+    with changed(copy) as database:
+        bodies = [("RADIO9", k, b"isrc,plays,seconds\nATABC2600001,%d,1\n" % k) for k in range(1, 1_003)]
+        database.executemany("INSERT INTO returns VALUES (?, ?, ?)", bodies)
+    ended = CliRunner(mix_stderr=False).invoke(main, ["propose", str(copy), "--amount", "1", "--returns", "RADIO9"])
+    assert ended.exit_code == 0 and "2 more returns are unpaid: an order names 1,000 at most" in ended.stderr
+    assert json.loads(ended.output)["returns"] == [["RADIO9", k] for k in range(1, 1_001)]
+
+
+def test_an_order_counts_no_more_senders_than_it_may(copy: pathlib.Path, monkeypatch: pytest.MonkeyPatch) -> None:
+    monkeypatch.setattr(orders, "MOST_SENDERS", 4)
+    assert "5 senders have files, and a cut has 4 at most" in run("propose", copy, "--amount", "1", status=1)
+
+
+@pytest.mark.parametrize("amount", [-1, 1_000_000_000_001])
+def test_an_amount_is_within_its_limits(copy: pathlib.Path, amount: int) -> None:
+    assert "an amount is 0 to 1,000,000,000,000 units" in run("propose", copy, f"--amount={amount}", status=1)
+
+
+def test_the_number_of_the_next_pool(copy: pathlib.Path) -> None:
+    with changed(copy) as database:
+        database.execute("INSERT INTO pools VALUES (99999, 0)")
+    ended = CliRunner(mix_stderr=False).invoke(main, ["propose", str(copy), "--amount", "1"])
+    assert "pool 4 is free" in ended.stderr

@@ -1,0 +1,154 @@
+"""An order rehearsed: what is odd about it, what it would credit, and whether it is a new one."""
+
+import json
+import pathlib
+
+import pytest
+import quarter
+import reckoning
+from answers import rows_of
+from conftest import further
+from corrections import sums
+from office_value import Pool, Return, order_body
+from society_office.copy import open_copy
+from society_office.orders import Wanted, propose
+from test_statements import run
+
+PLAYS = [("ATABC2600001", 3, 100), ("DEBET2600003", 2, 50)]
+# Returns that are sent after the quarter: plays in another order than others, a station that reports far more, and far less.
+SENT = [
+    Return("RADIO3", 1, PLAYS),
+    Return("RADIO3", 2, PLAYS[::-1]),
+    Return("RADIO4", 1, [("ATABC2600001", 10, 100)]),
+    Return("RADIO4", 2, [("ATABC2600001", 11, 100)]),
+    Return("RADIO4", 3, [("ATABC2600001", 105, 100)]),
+    Return("RADIO4", 4, [("ATABC2600001", 104, 100)]),
+    Return("RADIO4", 5, [("ATABC2600001", 1, 100)]),
+]
+
+
+@pytest.fixture
+def office(copy: pathlib.Path, tmp_path: pathlib.Path, program: str) -> pathlib.Path:
+    """The quarter's office with these returns."""
+    return further(program, copy, [quarter.OFFICE.request(it) for it in SENT], tmp_path / "office.db")
+
+
+def notes(office: pathlib.Path, program: str, order: Pool, *words: object) -> list[str]:
+    """What is odd about an order."""
+    (office.parent / "order.json").write_bytes(order_body(order))
+    said = json.loads(run("rehearse", office, office.parent / "order.json", "--program", program, "--format", "json", *words))
+    return [str(it) for it in said["notes"]]
+
+
+def order(*returns: tuple[str, int], right: str = "PR", amount: int = 1_000) -> Pool:
+    return Pool(6, right, amount, {**quarter.LAST_CUT, quarter.EPSILON: 2}, list(returns))
+
+
+def test_plays_that_were_sent_twice(office: pathlib.Path, program: str) -> None:
+    found = notes(office, program, order(("RADIO3", 1), ("RADIO3", 2), ("RADIO1", 4)))
+    assert "RADIO3/2 has the same plays as RADIO3/1, named here: the plays would be paid twice" in found
+    assert "RADIO1/4 has the same plays as RADIO1/3, paid by pool 3 in the PR: the plays would be paid twice" in found
+    assert not any(it.startswith("RADIO3/1 ") for it in found)
+    found = notes(office, program, order(("RADIO1", 4), right="MR"))
+    assert "RADIO1/4 has the same plays as RADIO1/3, paid by pool 3 in the PR: right only where it is to be paid in both" in found
+
+
+def test_returns_that_are_far_from_others(office: pathlib.Path, program: str) -> None:
+    found = [it for it in notes(office, program, order(*(("RADIO4", it) for it in range(1, 6)))) if "points" in it]
+    # The others of RADIO4/3 have 1,050 in the middle, so that it is just ten times that; RADIO4/4 is just not.
+    assert found == [
+        "RADIO4/3 has 10,500 points, 10 times those of the station's others: look at it",
+        "RADIO4/5 has 100 points, and the station's others 5,750 in the middle: look at it",
+    ]
+    office.with_name("void.txt").write_text("RADIO4/3-4\n")
+    assert [it for it in notes(office, program, order(("RADIO4", 5))) if "points" in it] == [
+        "RADIO4/5 has 100 points, and the station's others 1,050 in the middle: look at it"
+    ]
+    with open_copy(office) as opened:
+        remarks = propose(opened, 5, "PR", Wanted(), []).remarks
+    assert "RADIO4/3 has 10,500 points, 10 times those of the station's others: look at it" in remarks
+
+
+def test_what_is_void_and_what_is_left_out(office: pathlib.Path, program: str, tmp_path: pathlib.Path) -> None:
+    (tmp_path / "list").write_text("TV1/2\nRADIO4/2-4\n")
+    found = notes(office, program, order(("TV1", 1), ("TV1", 2)), "--void", tmp_path / "list")
+    assert "TV1/2 is void, by the list of void returns" in found
+    assert "not named, and paid by no pool: RADIO1/4, RADIO3/1-2, RADIO4/1,5" in found
+    assert f"{quarter.GAMMA} has files that wait, which this order does not count" in found
+    assert not any("the cut" in it for it in found)
+    found = notes(office, program, Pool(6, "PR", 5, {quarter.ALPHA: 2, quarter.BETA: 1}, []))
+    assert f"the cut counts {quarter.ALPHA} up to 2, and its files are applied up to 3" in found
+    assert f"the cut counts {quarter.BETA} up to 1, and its files are applied up to 26-0002" in found
+    assert f"the cut does not count {quarter.DELTA}, whose files are applied up to 2" in found
+    assert "it names no return with a play: all of it goes to UNCLAIMED" in found
+
+
+def test_a_repeat_is_no_new_pool(office: pathlib.Path, program: str) -> None:
+    closed = quarter.POOLS[0]
+    (office.parent / "order.json").write_bytes(order_body(closed))
+    said = run("rehearse", office, office.parent / "order.json", "--pool", 1, "--program", program)
+    assert "pool 1 is closed already by this very order, with 1,000,003 units of the PR" in said and "would be closed" not in said
+    assert "the same plays" not in said and "nothing would change" in said
+    (office.parent / "order.json").write_bytes(order_body(closed._replace(amount=5)))
+    words = ["rehearse", office, office.parent / "order.json", "--pool", 1, "--program", program]
+    assert "another order stands" in run(*words, status=1, out=True)
+    refused = json.loads(run(*words, "--format", "json", status=1, out=True))
+    assert refused["status"] == 409 and "another order stands" in refused["refusal"] and "accounts" not in refused
+    assert "the order is refused, status 409" in run(*words, "--format", "csv", status=1)
+    (office.parent / "order.json").write_bytes(b"{")
+    assert "order fault 1" in run("rehearse", office, office.parent / "order.json", "--program", program, status=1, out=True)
+
+
+def test_a_repeat_is_looked_at_as_if_it_were_new(office: pathlib.Path, program: str, tmp_path: pathlib.Path) -> None:
+    twice = order(("RADIO3", 1), ("RADIO3", 2))
+    then = further(program, office, [("/pools/6", order_body(twice))], tmp_path / "then.db")
+    found = [it for it in notes(then, program, twice, "--pool", 6) if "same plays" in it]
+    assert found == ["RADIO3/2 has the same plays as RADIO3/1, named here: the plays would be paid twice"]
+
+
+def test_its_forms(office: pathlib.Path, program: str) -> None:
+    named = order(("RADIO3", 1), ("RADIO4", 1), ("RADIO4", 2))
+    then = quarter.OFFICE.with_steps(*SENT, named)
+    (office.parent / "order.json").write_bytes(order_body(named))
+    words = ["rehearse", office, office.parent / "order.json", "--program", program]
+    rows = rows_of(run(*words, "--format", "csv"))
+    assert {it["account"]: int(it["units"]) for it in rows} == sums(reckoning.credits(then, 6)) and rows[0]["pool"] == "6"
+    assert rows[0]["right"] == "PR" and {it["account"]: it["name"] for it in rows}["I00000000295"] == "ANNA WRITER"
+    said = run(*words)
+    assert "RADIO4/1-2" in said and "2,100" in said and "pool 6 would be closed with 1,000 units of the PR" in said
+    data = json.loads(run(*words, "--format", "json"))
+    assert [(it["reporter"], it["number"], it["rows"], it["points"]) for it in data["returns"]] == [
+        ("RADIO3", 1, 2, 400),
+        ("RADIO4", 1, 1, 1_000),
+        ("RADIO4", 2, 1, 1_100),
+    ]
+
+
+def test_returns_of_the_office_itself(office: pathlib.Path, program: str, tmp_path: pathlib.Path) -> None:
+    run("unclaimed", office, "--settle", tmp_path / "round")
+    body, text = (tmp_path / "round/PR.csv").read_bytes(), (tmp_path / "round/PR.json").read_text()
+    stored = further(program, office, [("/returns/SETTLED/1", body)], tmp_path / "stored.db")
+    units = json.loads(text)["amount"]
+    said = run("rehearse", stored, tmp_path / "round/PR.json", "--program", program)
+    assert f"note: each recording gets just the units that SETTLED/1 asks for, {units:,} in all" in said
+    assert "the cut" not in said and "not named" not in said
+    (tmp_path / "round/PR.json").write_text(text.replace(str(units), "5"))
+    assert "and the amount is 5: no recording gets" in run("rehearse", stored, tmp_path / "round/PR.json", "--program", program)
+    found = notes(stored, program, order(("SETTLED", 1), ("TV1", 1)))
+    assert any("has to be paid by an order of its own, without plays" in it for it in found)
+    assert any("a pool of its own is to pay SETTLED/1" in it for it in notes(stored, program, order(("TV1", 1))))
+    found = notes(stored, program, Pool(6, "PR", units, {}, [("SETTLED", 1)]))
+    assert f"{units:,} units of it go to recordings that no single work of the cut names, so to UNCLAIMED" in found
+
+
+def test_a_round_and_a_correction_over_one_copy(office: pathlib.Path, program: str, tmp_path: pathlib.Path) -> None:
+    run("unclaimed", office, "--settle", tmp_path / "round")
+    run("correct", office, 1, "--cut", "now", "--program", program, "--into", tmp_path / "correct")
+    bodies = {"SETTLED": tmp_path / "round/PR.csv", "CORRECTED1": tmp_path / "correct/CORRECTED1-1.csv"}
+    both = further(program, office, [(f"/returns/{it}/1", file.read_bytes()) for it, file in bodies.items()], tmp_path / "both.db")
+    for order, other in ((tmp_path / "correct/CORRECTED1.json", "SETTLED/1"), (tmp_path / "round/PR.json", "CORRECTED1/1")):
+        assert f"note: {other} was written over the same copy and may pay the same units" in run(
+            "rehearse", both, order, "--program", program
+        )
+    both.with_name("void.txt").write_text("SETTLED\n")
+    assert "over the same copy" not in run("rehearse", both, tmp_path / "correct/CORRECTED1.json", "--program", program)

@@ -1,0 +1,156 @@
+"""No traceback and nothing half done, whatever a command is given: streams, locales, damaged copies, files that are none."""
+
+import os
+import pathlib
+import subprocess
+import sys
+
+import office_value
+import pytest
+import quarter
+from conftest import ROOT, made, running
+from office_value import File, Step
+from society_office.copy import open_copy
+from society_office.errors import OfficeError
+from society_office.program import Office, free_port
+from society_office.soundness import need_sound
+from test_checks import FIRST
+from test_statements import changed, run
+
+COMMAND = [sys.executable, str(ROOT / "office/society-office")]
+
+
+def shell(script: str, **extra: str) -> subprocess.CompletedProcess[str]:
+    """Runs a script whose `$it` is the command."""
+    words = ["bash", "-c", f"it={' '.join(COMMAND)!r}; {script}"]
+    return subprocess.run(words, capture_output=True, text=True, env={**os.environ, **extra}, check=False)
+
+
+@pytest.mark.parametrize(
+    "script, said",
+    [
+        ("$it parties {0} >&-", "standard output: it is closed"),
+        ("$it statement {0} I00000000295 > /dev/full", "standard output: No space left on device"),
+        ("$it --help > /dev/full", "standard output: No space left on device"),
+        ("$it why {0} PB000000012 >&- 2>&-", ""),
+        ("$it parties {0} --format json | true; exit ${{PIPESTATUS[0]}}", ""),
+    ],
+)
+def test_output_that_goes_nowhere(copy: pathlib.Path, script: str, said: str) -> None:
+    done = shell(script.format(copy))
+    assert done.returncode == 1 and done.stderr == (f"society-office: {said}\n" if said else "")
+
+
+def test_letters_that_the_locale_has_not(copy: pathlib.Path) -> None:
+    done = shell(f"$it parties {copy}", LC_ALL="C", PYTHONCOERCECLOCALE="0", PYTHONUTF8="0")
+    assert done.returncode == 0 and r"\xd6D\xd6N \xc4RGER" in done.stdout
+
+
+# What is done to a copy by hand, and what is said of it.
+UNSOUND = [
+    ("UPDATE transmissions SET sender = 'XY' WHERE sender = 'PB000000078'", "XY has file 1, whose header names 'PB000000078'"),
+    ("UPDATE pools SET amount = -5 WHERE pool = 2", "pool 2 has an amount of -5"),
+    ("UPDATE pools SET amount = amount + 1 WHERE pool = 3", "pool 3 has an amount of 7777778 and credits of 7777777"),
+    ("UPDATE balances SET units = units + 1 WHERE account = 'UNCLAIMED'", "the office has balances of 8817794 and pools of 8817793"),
+    ("UPDATE credits SET pool = 9 WHERE pool = 5", "pool 5 has an amount of 12 and credits of 0"),
+    ("DELETE FROM fronts WHERE sender = 'PB000000012'", "PB000000012 has files and no front"),
+    ("UPDATE fronts SET front = 7 WHERE sender = 'PB000000012'", "a front of 7, which has not come"),
+    ("UPDATE versions SET number = 9 WHERE work = 'E1'", "a work of file 9, which has not come"),
+    ("DELETE FROM returns WHERE reporter = 'RADIO1' AND number = 2", "a row of pool_returns has lost the row of returns"),
+    ("UPDATE versions SET place = 99 WHERE work = 'E1'", "`society audit` says: "),
+    ("UPDATE returns SET body = x'61'", "`society audit` says: "),
+    ("UPDATE returns SET body = CAST('isrc,plays,seconds' || char(10) || 'A,B,C' AS BLOB)", "`society audit` says: "),
+]
+
+
+@pytest.mark.parametrize("change, said", UNSOUND)
+def test_a_copy_that_was_changed_by_hand(
+    copy: pathlib.Path, tmp_path: pathlib.Path, change: str, said: str, program: str, monkeypatch: pytest.MonkeyPatch
+) -> None:
+    monkeypatch.setenv("SOCIETY_PROGRAM", program)
+    with changed(copy) as database:
+        database.execute(change)
+    told = run("site", copy, "--into", tmp_path / "site", status=1)
+    assert f"{copy} " in told and said in told and not (tmp_path / "site").exists()
+    if said.startswith("`"):
+        return
+    for words in (["balances", copy], ["statement", copy, "--all", "--into", tmp_path / "all"]):
+        assert said in run(*words, status=1)
+    with open_copy(copy) as opened, pytest.raises(OfficeError):
+        need_sound(opened, sums=True)
+
+
+def test_a_sound_copy_is_one(copy: pathlib.Path) -> None:
+    with open_copy(copy) as opened:
+        need_sound(opened, sums=True)
+
+
+def test_pages_are_replaced_whole_or_not_at_all(copy: pathlib.Path, tmp_path: pathlib.Path) -> None:
+    folder = tmp_path / "site"
+    run("site", copy, "--into", folder)
+    folder.chmod(0o710)
+    (folder / "senders/XX.html").write_text("of an older copy")
+    run("site", copy, "--into", folder)
+    assert not (folder / "senders/XX.html").exists() and folder.stat().st_mode & 0o777 == 0o710
+    before = {it: it.read_bytes() for it in folder.rglob("*") if it.is_file()}
+    with changed(copy) as database:
+        database.execute("UPDATE versions SET place = 99 WHERE work = 'E1'")
+    run("site", copy, "--into", folder, status=1)
+    assert {it: it.read_bytes() for it in folder.rglob("*") if it.is_file()} == before
+    assert {it.name for it in tmp_path.iterdir()} == {"copy.db", "site"}
+    (folder / "letter.txt").write_text("no page")
+    assert "letter.txt is no page" in run("site", copy, "--into", folder, status=1)
+    assert (folder / "letter.txt").exists()
+
+
+@pytest.mark.parametrize("address", ["ftp://x", "http://", "http://x:99999", "http://x:y", "http://x/?a"])
+def test_what_is_no_address(address: str) -> None:
+    with pytest.raises(OfficeError, match="is no address of an office"):
+        Office(address)
+
+
+def test_a_trial_office_that_has_the_file_already(tmp_path: pathlib.Path, program: str) -> None:
+    port = free_port()
+    with running(program, tmp_path / "trial.db", port, "--connections", "1000"):
+        words = ["check", tmp_path / "it.cwr", "--office", f"http://127.0.0.1:{port}"]
+        (tmp_path / "it.cwr").write_bytes(FIRST)
+        assert run(*words) == f"1 {tmp_path}/it.cwr: applied\n  1 of 1 works accepted\n"
+        again = run(*words)
+        assert "1 of 1 works accepted" in again and "has this very file under this number already" in again
+        (tmp_path / "it.cwr").write_bytes(FIRST.replace(b"FIRST SONG", b"OTHER SONG"))
+        said = run(*words, status=1, out=True)
+        assert f"2 {tmp_path}/it.cwr: applied" in said and "fault 20 may come of an earlier check" in said
+        # A path before the office's own is kept: there the office has nothing.
+        assert "can't be asked for" in run(*words[:-1], f"http://127.0.0.1:{port}/trial/", status=1)
+
+
+MOVED = FIRST.replace(b"FIRST SONG ", "FIRST SÖNG ".encode())
+
+
+def test_fields_that_letters_of_utf_8_have_moved(tmp_path: pathlib.Path, program: str) -> None:
+    (tmp_path / "it.cwr").write_bytes(MOVED)
+    said = run("check", tmp_path / "it.cwr", "--program", program, status=1, out=True)
+    assert "ISWC 96-106: 'T034524680' (a letter before it takes two bytes" in said
+    assert "warning: W1 FIRST SÖNG, line 3, NWR: letters of UTF-8 take 1 byte more" in said
+    assert "the work number begins with a blank, which is of it: ' W1'" in said
+    (tmp_path / "it.cwr").write_bytes(FIRST.replace(b"W1      ", b"W\xc4      "))
+    said = run("check", tmp_path / "it.cwr", "--program", program, status=1, out=True)
+    assert "only letters, digits and signs of ASCII" in said and "UTF-8" not in said and "warning" not in said
+    # (a letter in a field itself, and one behind it, have not moved it)
+    (tmp_path / "it.cwr").write_bytes(FIRST.replace(b"W1       ", "WÄ      ".encode()))
+    said = run("check", tmp_path / "it.cwr", "--program", program, status=1, out=True)
+    assert "fault 2" in said and "only letters, digits and signs of ASCII" in said and "a letter before it" not in said
+    (tmp_path / "it.cwr").write_bytes(FIRST.replace(b"FIRST SONG ", b"FIRST S\xd6NG "))
+    assert "warning" not in run("check", tmp_path / "it.cwr", "--program", program)
+
+
+def test_why_and_the_pages_warn_of_moved_fields(tmp_path: pathlib.Path, program: str) -> None:
+    work = quarter.nwr(" E 067", "TRÈS BIEN", "ATABC2600001", quarter.ALPHA_HOUSE, quarter.ANNA)
+    files: list[Step] = [File(quarter.ALPHA, number, f"transmissions/{number}", [work]) for number in (1, 2)]
+    copy = made(program, office_value.Office(quarter.NAMES, files), tmp_path)
+    said = run("why", copy, quarter.ALPHA)
+    assert "warning: E 067 TRÈS BIEN, line 3, NWR: letters of UTF-8 take 1 byte more" in said
+    # The key is looked up as it is, blanks before it and all.
+    assert "revision 0 of file 1 stands" in said
+    run("site", copy, "--into", tmp_path / "site")
+    assert "the work number begins with a blank" in (tmp_path / f"site/senders/{quarter.ALPHA}.html").read_text()
