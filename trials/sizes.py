@@ -102,25 +102,27 @@ def the_longest_bodies(program, folder):
     told("opened again", again, known + out[len(taken) :])
 
 
-def audited_in(program, folder, numbers):
-    """The least processor seconds of three audits of a file of these works."""
+def file_of_works(program, folder, numbers):
+    """An office's file with works of these numbers."""
     path, per = folder / f"{numbers[-1].decode()}.db", 1_000
     parts = [numbers[first : first + per] for first in range(0, len(numbers), per)]
     files = [put_file(works_file(1, len(part), number=lambda k: part[k - 1]), place) for place, part in enumerate(parts, 1)]
     with Server(program, folder, path.name) as server:
         told("applied", server.sent(b"".join(files)).count(b'"state":"applied"'), len(parts))
         told("a normal end", server.ended().status, 0)
-    return min(common.audit_seconds(program, path) for _ in range(3))
+    return path
 
 
 @slow
 @trial
 def numbers_that_a_sender_chooses(program, folder):
-    """65,000 work numbers that would begin at one group of a hashed table take a start no longer than others do."""
+    """65,000 work numbers that would begin at one group of a hashed table take a start no longer than others do, in one of ten pairs of starts:
+    other work of the machine can't make each first one slow."""
     count = 65_000
-    chosen = audited_in(program, folder, chosen_numbers(count, 13))
-    others = audited_in(program, folder, [b"W%011d" % (it * 8_191) for it in range(1, count + 1)])
-    told("as soon as others", chosen <= 1.3 * others, True)
+    chosen = file_of_works(program, folder, chosen_numbers(count, 13))
+    others = file_of_works(program, folder, [b"W%011d" % (it * 8_191) for it in range(1, count + 1)])
+    pairs = ((common.audit_seconds(program, chosen), common.audit_seconds(program, others)) for _ in range(10))
+    told("as soon as others", any(first <= 1.3 * second for first, second in pairs), True)
 
 
 # Small rows: a name, the requests, and the bodies of the answers wanted.
