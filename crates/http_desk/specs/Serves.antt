@@ -4,7 +4,7 @@ use Rattle.std.specs.Io.KnownBytes.{Appends, Consumes}
 use Rattle.std.specs.List.{flat_map, AllByRecursion}
 use Rattle.share_rules.specs.declared.office.Office.{Office}
 use Rattle.society_core.specs.Book.{Book}
-use Rattle.society_core.specs.Entries.{Entry, IsIn}
+use Rattle.society_core.specs.Entries.{Entry, IsAccepted, IsIn}
 use Rattle.society_core.specs.Headline.{OneContent, HoldsWhatCame}
 use Rattle.society_core.specs.Requests.{Query, Reply}
 use Rattle.society_core.specs.Runs.{Calls, Run}
@@ -44,6 +44,11 @@ Answered {S} state (query ∷ queries) (reply ∷ replies) desk new_desk =
 Answered state [] (reply ∷ replies) desk new_desk = ⊥
 Answered state (query ∷ queries) [] desk new_desk = ⊥
 
+-- over a medium that told the truth, what was accepted of these requests stands in each book that a crash leaves, whatever befell the store since
+abbrev pub AcceptedLasts : State → List Query → List Reply → Type 0
+AcceptedLasts new queries replies =
+    IsTrue new.is_honest → (entry : Entry) → IsAccepted queries replies entry → (book : Book) → new.left book → IsIn book entry
+
 -- The requests of a connection were answered in turn; from that follows what is told of the book where the store is clean at the end.
 -- A store that was clean before the first of them is clean behind the last, and so behind each, as long as its medium told the truth and
 -- the count of its faults did not rise: then all that is promised of a clean store holds of every call.
@@ -55,6 +60,7 @@ pub record AreAnswered {S : Type 0} (state : S → State) (parts : List Part) (r
   pub run : IsTrue (state new_desk).is_clean → Run (state desk).office (state desk).book (queries_of (state desk).office parts) replies (state new_desk).book
   pub came : IsTrue (state new_desk).is_clean → OneContent (state desk).book (queries_of (state desk).office parts) replies
       → HoldsWhatCame (state desk).book (queries_of (state desk).office parts) replies (state new_desk).book
+  pub lasts : AcceptedLasts (state new_desk) (queries_of (state desk).office parts) replies
 
 -- First these requests were answered and then more, with a store in between. Where that one is clean, the first are a run from the
 -- opening book, its book holds what came, and whatever befell the store later, its entries stand in the later book where the store is

@@ -71,12 +71,16 @@ Changes Change result old new = HasCleanDisk new → HasLayout old.now → OnOk 
 abbrev pub SurvivesChange : (Trees → Trees → Type 0) → State → State → Type 0
 SurvivesChange Change old new = Survives old new (λ db. IsTrue old.is_open × (HasLayout old.now → Change old.now.trees db))
 
+-- an answer comes from a connection that was open, is open still, and shows what it committed
+abbrev pub Settles : {X : Type 0} → State → State → Result X RowFault → Type 0
+Settles old new result = HasCleanDisk new → OnOk result (IsTrue old.is_open × IsTrue new.is_open × (new.now ≡ new.committed))
+
 -- What an addition in a transaction of its own does to a connection at rest: this change, committed, with an answer of which this
 -- holds, or nothing; and a crash leaves what it left before, or the tables with this change.
 pub record AddsAlone {X : Type 0} (Change : Trees → Trees → Type 0) (Says : Trees → X → Type 0) (old new : State) (result : Result X RowFault) : Type 0 where
   pub changed : HasCleanDisk new → HasLayout old.now → OnOk result (Change old.now.trees new.now.trees × HasLayout new.now)
   pub says : HasCleanDisk new → HasLayout old.now → IfOk result (Says old.now.trees)
-  pub settled : HasCleanDisk new → OnOk result (IsTrue old.is_open × (new.now ≡ new.committed))
+  pub settled : Settles old new result
   pub was_open : HasCleanDisk new → IsTrue new.is_open → IsTrue old.is_open
   pub neither : HasCleanDisk new → IsTrue new.is_open → OnErr result ((new.now ≡ old.committed) × (new.committed ≡ old.committed))
   pub survives : Survives old new (λ db. IsTrue old.is_open × (HasLayout old.now → Change old.now.trees db))

@@ -6,7 +6,7 @@ ghost use Rattle.society_core.specs.declared.store.Payment.TheVariants.{Unknown}
 ghost use Rattle.sqlite.specs.State.{HasCleanDisk};
 ghost use Rattle.society_rows.specs.Questions.{Asks};
 ghost use Rattle.society_rows.specs.Rows.{return_values};
-ghost use Rattle.society_book.specs.Shown.{ByBook, Changes, ReturnComes, ShowBody, ShowKey, ShowPayer, SurvivesChange};
+ghost use Rattle.society_book.specs.Shown.{ByBook, Changes, ReturnComes, Settles, ShowBody, ShowKey, ShowPayer, SurvivesChange};
 ghost use Rattle.society_rows.specs.Between.{between};
 
 use crate::bodies::compare_body;
@@ -114,7 +114,7 @@ pub fn payment_of<S: Alter>(conn: &mut Idle<S>, key: &ReturnKey) -> Result<Payme
 /// Adds a return in a transaction of its own.
 pub fn write_return<S: Alter>(conn: &mut Idle<S>, row: &ReturnRow<'_>) -> Result<(), RowFault>
     ensures changed { between S.Store conn.old conn.new (Changes (ReturnComes (return_values row.now)) result) }
-    ensures settled { between S.Store conn.old conn.new (λ old new. HasCleanDisk new → OnOk result (IsTrue old.is_open × (new.now ≡ new.committed))) }
+    ensures settled { between S.Store conn.old conn.new Settles result }
     ensures was_open { between S.Store conn.old conn.new (λ old new. HasCleanDisk new → IsTrue new.is_open → IsTrue old.is_open) }
     ensures neither { between S.Store conn.old conn.new (λ old new. HasCleanDisk new → IsTrue new.is_open → OnErr result ((new.now ≡ old.committed) × (new.committed ≡ old.committed))) }
     ensures survives { between S.Store conn.old conn.new (SurvivesChange (ReturnComes (return_values row.now))) }

@@ -10,6 +10,8 @@ pub mod SameOrders
 pub mod Books
 pub mod Closes
 pub mod CleanStores
+pub mod Known
+pub mod Told
 pub mod Stores
 pub mod ClaimLemmas
 pub mod Found

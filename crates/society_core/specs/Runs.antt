@@ -17,10 +17,15 @@ abbrev pub Step : Office → Book → Query → Reply → Book → Type 0
 Step office book query reply after =
     ((reply ≡ answer office book query) × (after ≡ next book query)) ⊎ ((reply ≡ Refused Unavailable) × (after ≡ book))
 
--- a call proceeds by a step where the store is clean when it ends, and a crash in it may leave the next book
-pub record Proceeds (old new : State) (query : Query) (reply : Reply) : Type 0 where
-  pub step : IsTrue new.is_clean → Step old.office old.book query reply new.book
-  pub goes : Goes old new (λ book. book ≡ next old.book query)
+-- a store that was clean told what its book says, and a crash leaves the book to which that leads
+pub record TellsTruth (old new : State) (query : Query) (reply : Reply) : Type 0 where
+  pub clean : IsTrue old.is_clean
+  pub says : reply ≡ answer old.office old.book query
+  pub lasts : (book : Book) → new.left book → book ≡ next old.book query
+
+-- over a medium that told the truth the office is unavailable, or tells the truth
+abbrev pub IsHonest : State → State → Query → Reply → Type 0
+IsHonest old new query reply = IsTrue new.is_honest → (reply ≡ Refused Unavailable) ⊎ TellsTruth old new query reply
 
 -- whether a request asks the store: one for nothing that the office has does not, nor does an end or an order at fault
 abbrev pub asks_store : Query → Bool
@@ -29,6 +34,13 @@ asks_store (ClosesFaulty fault) = false
 asks_store AsksElsewhere = false
 asks_store other = true
 
+-- a call proceeds by a step where the store is clean when it ends, a crash in it may leave the next book, and where it asks the store and the
+-- medium told the truth it is answered the truth, or that the office is unavailable
+pub record Proceeds (old new : State) (query : Query) (reply : Reply) : Type 0 where
+  pub step : IsTrue new.is_clean → Step old.office old.book query reply new.book
+  pub goes : Goes old new (λ book. book ≡ next old.book query)
+  pub told : asks_store query ≡ true → IsHonest old new query reply
+
 -- A request was answered by a call that led the store on. One that asks nothing of the store leaves it untouched; one for nothing that
 -- the office has asks no memory either, so it is told that this is unknown, and never that the office is unavailable.
 pub record Calls {S : Type 0} (state : S → State) (desk new_desk : S) (query : Query) (reply : Reply) : Type 0 where
@@ -36,15 +48,22 @@ pub record Calls {S : Type 0} (state : S → State) (desk new_desk : S) (query :
   pub untouched : asks_store query ≡ false → new_desk ≡ desk
   pub unknown : query ≡ AsksElsewhere → reply ≡ Refused Unknown
 
--- a call that looks up what a question asks for: a step where the store is clean when it ends, and nothing changed
+-- a call that looks up what a question asks for: a step where the store is clean when it ends, nothing changed, and over a medium that
+-- told the truth the truth, or that the office is unavailable
 pub record LooksUp (old new : State) (inquiry : Inquiry) (reply : Reply) : Type 0 where
   pub step : IsTrue new.is_clean → Step old.office old.book (Inquires inquiry) reply new.book
   pub asks : ChangesNothing old new
+  pub told : IsHonest old new (Inquires inquiry) reply
 
 -- a check refuses as is due, or where the office is unavailable
 abbrev pub RefusesBy : Option Refusal → Result ⊤ Refusal → Type 0
 RefusesBy due (Ok done) = due ≡ None
 RefusesBy due (Err refusal) = (due ≡ Some refusal) ⊎ (refusal ≡ Unavailable)
+
+-- a check over a medium that told the truth refuses as is due, by a store that was clean, or where the office is unavailable
+abbrev pub RefusesTruly : State → Option Refusal → Result ⊤ Refusal → Type 0
+RefusesTruly old due (Ok done) = due ≡ None
+RefusesTruly old due (Err refusal) = (IsTrue old.is_clean × (due ≡ Some refusal)) ⊎ (refusal ≡ Unavailable)
 
 -- each request of a list is answered by a step, one after another
 abbrev pub Run : Office → Book → List Query → List Reply → Book → Type 0

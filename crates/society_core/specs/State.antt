@@ -56,16 +56,21 @@ abbrev pub HasCause : State → State → StoreFault → Type 0
 HasCause old new Memory = Unit {0}
 HasCause old new Refused = Rises old.failures new.failures
 
--- what every question promises: an answer by the office and the book, nothing changed, a cause for a refusal, and refusal once the count of failures is at its greatest
+-- What every question promises: an answer by the office and the book, and where the medium told the truth none but by a store that was
+-- clean; nothing changed, a cause for a refusal, and refusal once the count of failures is at its greatest.
 pub record Question {T : Type 0} (old new : State) (result : Result T StoreFault) (IsAnswer : T → Type 0) : Type 0 where
   pub answer : IsTrue new.is_clean → IfOk result IsAnswer
+  pub truth : IsTrue new.is_honest → IfOk result IsAnswer
+  pub answered : IsTrue new.is_honest → OnOk result (IsTrue old.is_clean)
   pub asks : ChangesNothing old new
   pub cause : IfErr result (HasCause old new)
   pub refuses : old.failures ≡ 2 ^ 64 - 1 → result ≡ Err Refused
 
--- what every addition promises: the next book where it was added and the old one where it was not, at most the next one left by a crash, and the rest as a question
+-- What every addition promises: the next book where it was added and the old one where it was not, at most the next one left by a crash;
+-- where the medium told the truth the store is clean behind what it added, so that a crash leaves that; and the rest as a question.
 pub record Addition {T : Type 0} (old new : State) (next : Book) (result : Result T StoreFault) (IsAnswer : T → Type 0) : Type 0 where
   pub added : IsTrue new.is_clean → OnOk result (new.book ≡ next)
+  pub lasting : IsTrue new.is_honest → OnOk result (IsTrue new.is_clean)
   pub answer : IsTrue new.is_clean → IfOk result IsAnswer
   pub unchanged : IsTrue new.is_clean → OnErr result (new.book ≡ old.book)
   pub goes : Goes old new (λ book. book ≡ next)

@@ -3,7 +3,7 @@ ghost use Rattle.std.specs.Prelude.{◌≡◌, ℕ, List, IfOk, IsTrue};
 ghost use Rattle.cwr_files.specs.Fed.{WasFed};
 ghost use Rattle.society_core.specs.Answers.{arrival_at, cut_refusal, first_refusal, return_refusal};
 ghost use Rattle.society_core.specs.Requests.{Puts, States, PutsReturn, Closes, Arrived, Ended, Stored, Closed, Acknowledged, Described, Judged, Credited, Owed, shown_of, shown_to, showing_of, standing_of, told};
-ghost use Rattle.society_core.specs.Runs.{LooksUp, Proceeds, RefusesBy};
+ghost use Rattle.society_core.specs.Runs.{LooksUp, Proceeds, RefusesBy, RefusesTruly};
 ghost use Rattle.society_core.specs.State.{ChangesNothing};
 ghost use Rattle.society_core.specs.declared.inquiry.Inquiry.TheVariants as inquiries;
 
@@ -199,6 +199,7 @@ impl<S: Store> Desk<S> {
     fn check_cut(&mut self, cut: &[TransmissionKey]) -> Result<(), Refusal>
         ensures asks { ChangesNothing (S.state self.old) (S.state self.new) }
         ensures refusal { IsTrue (S.state self.new).is_clean → RefusesBy (first_refusal (cut_refusal (S.state self.old).book) cut.now) result }
+        ensures told { IsTrue (S.state self.new).is_honest → RefusesTruly (S.state self.old) (first_refusal (cut_refusal (S.state self.old).book) cut.now) result }
     {
         for key in cut {
             let place = self.store.place(&key.sender, key.number)?;
@@ -216,6 +217,7 @@ impl<S: Store> Desk<S> {
     fn check_returns(&mut self, returns: &[ReturnKey]) -> Result<(), Refusal>
         ensures asks { ChangesNothing (S.state self.old) (S.state self.new) }
         ensures refusal { IsTrue (S.state self.new).is_clean → RefusesBy (first_refusal (return_refusal (S.state self.old).book) returns.now) result }
+        ensures told { IsTrue (S.state self.new).is_honest → RefusesTruly (S.state self.old) (first_refusal (return_refusal (S.state self.old).book) returns.now) result }
     {
         for key in returns {
             match self.store.payment(key)? {

@@ -1,16 +1,16 @@
 -- Lemmas on requests that were answered in turn: one after another, what follows for the book, and what no later failure takes away.
-use Rattle.std.proofs.Common.{◌≡◌, ◌≤◌, ⊎_elim, inl, ℕ, suc, List, [], ◌∷◌, ◌++◌, length, refl, sym, ◌∙◌, ap, subst, arith}
+use Rattle.std.proofs.Common.{◌≡◌, ◌≤◌, ⊎_elim, inl, inr, true, false, Some, ℕ, suc, List, [], ◌∷◌, ◌++◌, length, refl, sym, ◌∙◌, ap, subst, arith}
 use Rattle.std.specs.Prelude.{IsTrue}
 use Rattle.std.proofs.lemmas.List.{length-map, map-append}
 use Rattle.share_rules.specs.declared.office.Office.{Office}
 use Rattle.society_core.specs.Answers.{answer, next}
 use Rattle.society_core.specs.Book.{Book}
-use Rattle.society_core.specs.Entries.{Entry, IsIn}
-use Rattle.society_core.specs.Requests.{Query, Reply}
-use Rattle.society_core.specs.Runs.{Proceeds, Run}
+use Rattle.society_core.specs.Entries.{Accepts, Entry, IsAccepted, IsIn, entry_of, is_acceptance}
+use Rattle.society_core.specs.Requests.{AsksElsewhere, Closes, ClosesFaulty, Inquires, Puts, PutsReturn, Query, Reply, States, StatesFaulty}
+use Rattle.society_core.specs.Runs.{Proceeds, Run, asks_store}
 use Rattle.society_core.specs.State.{IsState, State, StaysClean}
 use Rattle.society_core.proofs.lemmas.CleanStores.{stays_through}
-use Rattle.society_core.proofs.lemmas.HeadlineLemmas.{holds_what_came, step_keeps}
+use Rattle.society_core.proofs.lemmas.HeadlineLemmas.{holds_what_came, step_keeps, step_there}
 use Rattle.http_text.specs.Part.{Part}
 use Rattle.http_text.specs.Path.{request_of}
 use Rattle.http_desk.specs.Serves.{Answered, AnsweredThrough, AreAnswered, Steps, queries_of}
@@ -85,38 +85,6 @@ answered_run state (q ∷ qs) (r ∷ rs) a b first clean = (
 answered_run state [] (r ∷ rs) a b first clean = absurd first
 answered_run state (q ∷ qs) [] a b first clean = absurd first
 
--- ---- the requests of a connection
-
--- all that is told of them follows from the steps
-answered_so : {S : Type 0} (state : S → State) (parts : List Part) (replies : List Reply) (desk new_desk : S) → Answered state (queries_of (state desk).office parts) replies desk new_desk
-    → AreAnswered state parts replies desk new_desk
-answered_so state parts replies desk new_desk steps = record {
-  each = answered_each state (queries_of (state desk).office parts) replies desk new_desk steps ∙ length-map parts (request_of (state desk).office.society);
-  office = answered_office state (queries_of (state desk).office parts) replies desk new_desk steps;
-  steps = steps;
-  stays = answered_stays state (queries_of (state desk).office parts) replies desk new_desk steps;
-  run = answered_run state (queries_of (state desk).office parts) replies desk new_desk steps;
-  came = λ clean. holds_what_came _ _ (queries_of (state desk).office parts) replies _ (answered_run state (queries_of (state desk).office parts) replies desk new_desk steps clean);
-}
-
-pub none_answered : {S : Type 0} (state : S → State) (desk : S) → AreAnswered state [] [] desk desk
-none_answered state desk = answered_so state [] [] desk desk refl
-
--- behind some requests more were answered
-pub answered_on : {S : Type 0} (state : S → State) (ps qs : List Part) (rs ss : List Reply) (old mid new : S)
-    → AreAnswered state ps rs old mid → AreAnswered state qs ss mid new → AreAnswered state (ps ++ qs) (rs ++ ss) old new
-answered_on state ps qs rs ss old mid new first more =
-    let behind = subst (λ (o : Office). Answered state (queries_of o qs) ss mid new) first.office more.steps in
-    answered_so state (ps ++ qs) (rs ++ ss) old new
-    (subst (λ (queries : List Query). Answered state queries (rs ++ ss) old new) (sym (map-append (request_of (state old).office.society) ps qs))
-    (answered_append state (queries_of (state old).office ps) (queries_of (state old).office qs) rs ss old mid new first.steps behind))
-
--- behind some requests one more was answered
-pub one_answered_on : {S : Type 0} (state : S → State) (parts : List Part) (replies : List Reply) (old mid new : S) (part : Part) (reply : Reply)
-    → AreAnswered state parts replies old mid → Steps state mid new part reply → AreAnswered state (parts ++ part ∷ []) (replies ++ reply ∷ []) old new
-one_answered_on state parts replies old mid new part reply first step =
-    answered_on state parts (part ∷ []) replies (reply ∷ []) old mid new first (answered_so state (part ∷ []) (reply ∷ []) mid new (new, step, refl))
-
 -- ---- what no later failure takes away
 
 -- these entries stand in the book where the store is clean, and in each that a crash may leave where its medium told the truth
@@ -152,6 +120,78 @@ answered_keeps state (q ∷ qs) (r ∷ rs) a b Entries first kept =
     answered_keeps state qs rs first.0 b Entries first.2 (call_keeps (state a) (state first.0) q r Entries first.1.proceeds kept)
 answered_keeps state [] (r ∷ rs) a b Entries first kept = absurd first
 answered_keeps state (q ∷ qs) [] a b Entries first kept = absurd first
+
+-- ---- what was accepted
+
+-- a request that is to make an entry asks the store
+makes_asks : (query : Query) (entry : Entry) → entry_of query ≡ Some entry → asks_store query ≡ true
+makes_asks (Puts sender number body) entry e = refl
+makes_asks (States sender stated) entry e = refl
+makes_asks (StatesFaulty fault) entry e = absurd cc
+makes_asks (PutsReturn key body) entry e = refl
+makes_asks (Closes pool order) entry e = refl
+makes_asks (ClosesFaulty fault) entry e = absurd cc
+makes_asks (Inquires inquiry) entry e = absurd cc
+makes_asks AsksElsewhere entry e = absurd cc
+
+-- the entry of a request that was accepted over a medium that told the truth
+accepted_kept : (old new : State) (query : Query) (reply : Reply) (entry : Entry) → Proceeds old new query reply → IsTrue new.is_honest → Accepts query reply entry → Keeps new (λ e. entry ≡ e)
+accepted_kept old new query reply entry call honest accepts =
+    elim (call.told (makes_asks query entry accepts.0) honest) [
+      | inl busy ↦ absurd (let clash : false ≡ true = ap is_acceptance (sym busy) ∙ accepts.1 in cc)
+      | inr truth ↦
+          let due : Accepts query (answer old.office old.book query) entry = subst (λ (r : Reply). Accepts query r entry) truth.says accepts in
+          let next_has = step_there old.office old.book query (answer old.office old.book query) (next old.book query) (inl (refl, refl)) entry due in
+          record {
+            there = λ clean e is. subst (IsIn new.book) is (step_there old.office old.book query reply new.book (call.step clean) entry accepts);
+            left = λ _ book left e is. subst (IsIn book) is (subst (λ (b : Book). IsIn b entry) (sym (truth.lasts book left)) next_has);
+          }
+    ]
+
+accepted_lasts : {S : Type 0} (state : S → State) (qs : List Query) (rs : List Reply) (a b : S) → Answered state qs rs a b
+    → IsTrue (state b).is_honest → (entry : Entry) → IsAccepted qs rs entry → Keeps (state b) (λ e. entry ≡ e)
+accepted_lasts state [] rs a b answered honest entry accepted = absurd accepted
+accepted_lasts state (q ∷ qs) [] a b answered honest entry accepted = absurd accepted
+accepted_lasts state (q ∷ qs) (r ∷ rs) a b first honest entry (inl now) =
+    answered_keeps state qs rs first.0 b (λ e. entry ≡ e) first.2
+    (accepted_kept (state a) (state first.0) q r entry first.1.proceeds (answered_honest state qs rs first.0 b first.2 honest) now)
+accepted_lasts state (q ∷ qs) (r ∷ rs) a b first honest entry (inr later) = accepted_lasts state qs rs first.0 b first.2 honest entry later
+
+-- ---- the requests of a connection
+
+-- all that is told of them follows from the steps
+answered_so : {S : Type 0} (state : S → State) (parts : List Part) (replies : List Reply) (desk new_desk : S) → Answered state (queries_of (state desk).office parts) replies desk new_desk
+    → AreAnswered state parts replies desk new_desk
+answered_so state parts replies desk new_desk steps = record {
+  each = answered_each state (queries_of (state desk).office parts) replies desk new_desk steps ∙ length-map parts (request_of (state desk).office.society);
+  office = answered_office state (queries_of (state desk).office parts) replies desk new_desk steps;
+  steps = steps;
+  stays = answered_stays state (queries_of (state desk).office parts) replies desk new_desk steps;
+  run = answered_run state (queries_of (state desk).office parts) replies desk new_desk steps;
+  came = λ clean. holds_what_came _ _ (queries_of (state desk).office parts) replies _ (answered_run state (queries_of (state desk).office parts) replies desk new_desk steps clean);
+  lasts = λ honest entry accepted book left.
+      (accepted_lasts state (queries_of (state desk).office parts) replies desk new_desk steps honest entry accepted).left honest book left entry refl;
+}
+
+pub none_answered : {S : Type 0} (state : S → State) (desk : S) → AreAnswered state [] [] desk desk
+none_answered state desk = answered_so state [] [] desk desk refl
+
+-- behind some requests more were answered
+pub answered_on : {S : Type 0} (state : S → State) (ps qs : List Part) (rs ss : List Reply) (old mid new : S)
+    → AreAnswered state ps rs old mid → AreAnswered state qs ss mid new → AreAnswered state (ps ++ qs) (rs ++ ss) old new
+answered_on state ps qs rs ss old mid new first more =
+    let behind = subst (λ (o : Office). Answered state (queries_of o qs) ss mid new) first.office more.steps in
+    answered_so state (ps ++ qs) (rs ++ ss) old new
+    (subst (λ (queries : List Query). Answered state queries (rs ++ ss) old new) (sym (map-append (request_of (state old).office.society) ps qs))
+    (answered_append state (queries_of (state old).office ps) (queries_of (state old).office qs) rs ss old mid new first.steps behind))
+
+-- behind some requests one more was answered
+pub one_answered_on : {S : Type 0} (state : S → State) (parts : List Part) (replies : List Reply) (old mid new : S) (part : Part) (reply : Reply)
+    → AreAnswered state parts replies old mid → Steps state mid new part reply → AreAnswered state (parts ++ part ∷ []) (replies ++ reply ∷ []) old new
+one_answered_on state parts replies old mid new part reply first step =
+    answered_on state parts (part ∷ []) replies (reply ∷ []) old mid new first (answered_so state (part ∷ []) (reply ∷ []) mid new (new, step, refl))
+
+-- ---- the store in between
 
 -- the store between the first requests and those behind them
 record Between {S : Type 0} (state : S → State) (queries more : List Query) (replies : List Reply) (desk new_desk : S) : Type 0 where

@@ -12,7 +12,7 @@ use Rattle.society_core.specs.Book.{Book}
 use Rattle.society_core.specs.Ends.{end_known_as, ended_before, fault_stated, number_past, place_stated}
 use Rattle.society_core.specs.Orders.{Order}
 use Rattle.society_core.specs.Requests.{Query, Puts, States, StatesFaulty, PutsReturn, Closes, ClosesFaulty, Inquires, AsksElsewhere, Reply, Refused}
-use Rattle.society_core.specs.Runs.{Calls, Proceeds, Step, asks_store}
+use Rattle.society_core.specs.Runs.{Calls, IsHonest, Proceeds, Step, asks_store}
 use Rattle.society_core.specs.State.{Goes, State}
 use Rattle.society_core.specs.declared.refusal.Refusal.{Refusal}
 use Rattle.society_core.specs.declared.refusal.Refusal.TheVariants.{Unknown}
@@ -101,10 +101,16 @@ tells_step office book query reply told after (inr (shown, busy)) (inl (is, gone
     inr (busy, gone ∙ shown_stays office book query (subst IsShown is shown))
 tells_step office book query reply told after (inr (shown, busy)) (inr (is, stays)) = inr (busy, stays)
 
+-- and what is told of the truth is the truth, or that the office is unavailable
+tells_truth : (old new : State) (query : Query) (reply told : Reply) → TellsReply reply told → IsHonest old new query reply → IsHonest old new query told
+tells_truth old new query reply told (inl same) honest = subst (λ (r : Reply). IsHonest old new query r) (sym same) honest
+tells_truth old new query reply told (inr (shown, busy)) honest = λ is. inl busy
+
 proceeds_told : (old new : State) (query : Query) (reply told : Reply) → TellsReply reply told → Proceeds old new query reply → Proceeds old new query told
 proceeds_told old new query reply told tells call = record {
   step = λ clean. tells_step old.office old.book query reply told new.book tells (call.step clean);
   goes = call.goes;
+  told = λ asks. tells_truth old new query reply told tells (call.told asks);
 }
 
 -- a refusal is told as it is

@@ -65,6 +65,13 @@ proceeds-alike old new sender number body bytes reply f laws a b p = record {
           | inr done ↦ inr (done.0, done.1 ∙ (puts-alike old.office old.book sender number body bytes f (laws.sound done.0) a b).1)
         ];
   };
+  told = λ asks honest.
+      elim (p.told refl honest) [
+        | inl busy ↦ inl busy
+        | inr truth ↦
+            let same = puts-alike old.office old.book sender number body bytes f (laws.sound truth.clean) a b in
+            inr (record { clean = truth.clean; says = truth.says ∙ same.0; lasts = λ later left. truth.lasts later left ∙ same.1 })
+      ];
 }
 
 -- a put of what a reader keeps is a put of all bytes that it was fed

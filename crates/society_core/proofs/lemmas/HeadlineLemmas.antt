@@ -61,7 +61,7 @@ step_from o b q r c step e there =
     (step_changes o b q r c step)
 
 -- what was accepted is there
-step_there : (o : Office) (b : Book) (q : Query) (r : Reply) (c : Book) → Step o b q r c → (e : Entry) → Accepts q r e → IsIn c e
+pub step_there : (o : Office) (b : Book) (q : Query) (r : Reply) (c : Book) → Step o b q r c → (e : Entry) → Accepts q r e → IsIn c e
 step_there o b q r c step e accepts =
     ⊎_elim
     (λ (stays : Stays b q r c). subst (λ (d : Book). IsIn d e) (sym stays.same) (stays.known e accepts))

@@ -15,7 +15,7 @@ use Rattle.society_book.specs.Kept.{HoldsOwnBook, HoldsBook, IsAtRest, IsOfficeB
 use Rattle.society_book.specs.Shown.{AddsAlone}
 use Rattle.society_book.proofs.lemmas.shown.AskLemmas.{both_true, clean_is, first_true, second_true, still_open, was_clean}
 use Rattle.society_book.proofs.lemmas.rows_alike.BookLemmas.{the_book}
-use Rattle.society_tables.proofs.lemmas.StoreQuestions.{IsAlone, coded_book, ok_alone, told_answer, told_cause, told_on}
+use Rattle.society_tables.proofs.lemmas.StoreQuestions.{IsAlone, coded_book, ok_alone, told_answer, told_cause, told_on, told_open}
 use Rattle.sqlite.specs.Effect.{Database}
 use Rattle.sqlite.specs.State.{HasCleanDisk, State}
 use Rattle.sqlite_trees.specs.Tree.{Trees}
@@ -41,10 +41,10 @@ module _ (o : Office) (old new : State) {X : Type 0} (Change : Trees → Trees �
   holds_next : Rests o old → IsTrue new.is_clean → (x : X) → answer ≡ Ok x → HoldsBook o next new.now.trees × HasLayout new.now × (new.now ≡ new.committed)
   holds_next rests clean x is =
       let on : HasCleanDisk new = clean_is new.is_clean clean in
-      let settled = subst (λ r. OnOk r (IsTrue old.is_open × (new.now ≡ new.committed))) is (adds.settled on) in
+      let settled = subst (λ r. OnOk r (IsTrue old.is_open × IsTrue new.is_open × (new.now ≡ new.committed))) is (adds.settled on) in
       let at_rest = rests (both_true old.is_clean old.is_open (clean_then clean) settled.0) in
       let changed = subst (λ r. OnOk r (Change old.now.trees new.now.trees × HasLayout new.now)) is (adds.changed on at_rest.kept.layout) in
-      (grows (both_true old.is_clean old.is_open (clean_then clean) settled.0) at_rest.kept.holds new.now.trees changed.0, changed.1, settled.1)
+      (grows (both_true old.is_clean old.is_open (clean_then clean) settled.0) at_rest.kept.holds new.now.trees changed.0, changed.1, settled.2)
 
   -- once it was refused, they show what they showed
   same_after : Rests o old → IsTrue (new.is_clean && new.is_open) → (e : RowFault) → answer ≡ Err e → (new.now ≡ old.now) × (new.committed ≡ old.committed)
@@ -95,6 +95,7 @@ module _ (o : Office) (old new : State) {X : Type 0} (Change : Trees → Trees �
   pub addition : (IsAnswer : X → Type 0) → ((x : X) → IsAlone (IsAnswer x)) → (IsTrue (old.is_clean && old.is_open) → HoldsOwnBook o old.now.trees → (x : X) → Says old.now.trees x → IsAnswer x) → (f g : ℕ) (result : Result X StoreFault) → ∥ Rests o old ∥₁ → f < 2 ^ 64 - 1 → Told answer result f g → Addition (tables_state o old f) (tables_state o new g) next result IsAnswer
   addition IsAnswer alone tells f g result rests below told = record {
     added = λ clean. added_by answer refl result told clean;
+    lasting = λ honest. told_open answer result f g (IsTrue (new.is_clean && new.is_open)) told (stays_open honest answer (adds.settled (clean_is new.is_clean honest)));
     answer = λ clean. told_answer answer result f g IsAnswer told (∥∥₁_elim rests (ok_alone answer IsAnswer alone) (λ r. said IsAnswer (tells (clean_before clean)) r clean));
     unchanged = λ clean. kept_by answer refl result told clean;
     goes = record {
@@ -110,6 +111,10 @@ module _ (o : Office) (old new : State) {X : Type 0} (Change : Trees → Trees �
     refuses = λ full. absurd (let e = full in omega (e, below, arith));
   }
     where
+      stays_open : IsTrue new.is_clean → (r : Result X RowFault) → OnOk r (IsTrue old.is_open × IsTrue new.is_open × (new.now ≡ new.committed)) → OnOk r (IsTrue (new.is_clean && new.is_open))
+      stays_open honest (Ok x) settled = both_true new.is_clean new.is_open honest settled.1
+      stays_open honest (Err e) settled = tt
+
       added_by : (r : Result X RowFault) → answer ≡ r → (s : Result X StoreFault) → Told r s f g → IsTrue (new.is_clean && new.is_open) → OnOk s (book_of new.now.trees ≡ next)
       added_by (Ok x) is s t clean = subst (λ z. OnOk z (book_of new.now.trees ≡ next)) (sym t.0) (∥∥₁_elim rests (Coded-set coded_book _ _) (λ r. book_after r clean x is))
       added_by (Err e) is s t clean = subst (λ z. OnOk z (book_of new.now.trees ≡ next)) (sym t.0) tt

@@ -1,5 +1,5 @@
 -- What every question of a store promises, by what became of its connection.
-use Rattle.std.proofs.Common.{◌≡◌, ◌≤◌, ◌<◌, ◌-◌, ◌^◌, inl, ℕ, ◌&&◌, IsTrue, Result, Ok, Err, IfOk, IfErr, refl, subst, sym, arith}
+use Rattle.std.proofs.Common.{◌≡◌, ◌≤◌, ◌<◌, ◌-◌, ◌^◌, inl, ℕ, ◌&&◌, IsTrue, Result, Ok, Err, IfOk, IfErr, OnOk, refl, subst, sym, arith}
 use Rattle.std.specs.Coded.{Coded, Coded-set, code_by, coded×, coded_ℕ, coded_list}
 use Rattle.std.specs.FinMap as finite
 use Rattle.std.proofs.Math.Logic.{∥∥₁_elim, ∥∥₁_map}
@@ -37,8 +37,8 @@ use Rattle.society_rows.specs.Questions as Rows
 use Rattle.sqlite_trees.specs.Tree.{Trees}
 use Rattle.society_book.specs.Shown.{ByBook, ByOwnBook}
 use Rattle.society_book.specs.Kept.{AsksOf, HoldsBook, IsOfficeBook, Rests, tables_state}
-use Rattle.society_book.proofs.lemmas.shown.AskLemmas.{asks, clean_before, clean_is, first_true, goes, rests_on}
-use Rattle.sqlite.specs.State.{State}
+use Rattle.society_book.proofs.lemmas.shown.AskLemmas.{asks, both_true, clean_before, clean_is, first_true, goes, rests_on, was_clean}
+use Rattle.sqlite.specs.State.{HasCleanDisk, State}
 
 pub coded_book : Coded Book
 coded_book =
@@ -80,20 +80,35 @@ pub told_answer : {T : Type 0} (answer : Result T RowFault) (result : Result T S
 told_answer (Ok x) result f g P told h = subst (λ r. IfOk r P) (sym told.0) h
 told_answer (Err fault) result f g P told h = subst (λ r. IfOk r P) (sym told.0) tt
 
+-- the store's answer is one of the tables
+pub told_open : {T : Type 0} (answer : Result T RowFault) (result : Result T StoreFault) (f g : ℕ) (P : Type 0) → Told answer result f g → OnOk answer P → OnOk result P
+told_open (Ok x) result f g P told h = subst (λ r. OnOk r P) (sym told.0) h
+told_open (Err fault) result f g P told h = subst (λ r. OnOk r P) (sym told.0) tt
+
 module _ (o : Office) (old new : State) (f g : ℕ) (rests : ∥ Rests o old ∥₁) (asks_of : AsksOf old new) where
   book_stays : IsTrue (new.is_clean && new.is_open) → f ≤ g → (tables_state o new g).book ≡ (tables_state o old f).book
   book_stays clean more = ∥∥₁_elim rests (Coded-set coded_book _ _) (λ r. (asks o old new asks_of f g more r).same clean)
 
   -- a question of a store over a connection: what it answers where the tables hold a book
-  pub question : {T : Type 0} (answer : Result T RowFault) (result : Result T StoreFault) (IsAnswer : T → Type 0) → ((x : T) → IsAlone (IsAnswer x)) → f < 2 ^ 64 - 1 → Told answer result f g → (IsTrue (new.is_clean && new.is_open) → IsOfficeBook o old.now → IfOk answer IsAnswer) → Question (tables_state o old f) (tables_state o new g) result IsAnswer
-  question answer result IsAnswer alone below told answers =
+  pub question : {T : Type 0} (answer : Result T RowFault) (result : Result T StoreFault) (IsAnswer : T → Type 0) → ((x : T) → IsAlone (IsAnswer x)) → f < 2 ^ 64 - 1 → Told answer result f g → (HasCleanDisk new → OnOk answer (IsTrue old.is_open)) → (HasCleanDisk new → IsOfficeBook o old.now → IfOk answer IsAnswer) → Question (tables_state o old f) (tables_state o new g) result IsAnswer
+  question {T} answer result IsAnswer alone below told opened answers =
       let more : f ≤ g = told_on answer result f g told in
       record {
-        answer = λ clean. told_answer answer result f g IsAnswer told (∥∥₁_elim rests (ok_alone answer IsAnswer alone) (λ r. answers clean (r (clean_before o old new asks_of clean)).kept));
+        answer = λ clean. told_answer answer result f g IsAnswer told (∥∥₁_elim rests (ok_alone answer IsAnswer alone) (λ r. answers (clean_is new.is_clean (first_true new.is_clean new.is_open clean)) (r (clean_before o old new asks_of clean)).kept));
+        truth = λ honest. told_answer answer result f g IsAnswer told (true_by answer (was honest answer (opened (clean_is new.is_clean honest))) (answers (clean_is new.is_clean honest)));
+        answered = λ honest. told_open answer result f g (IsTrue (old.is_clean && old.is_open)) told (was honest answer (opened (clean_is new.is_clean honest)));
         asks = record { goes = goes o old new asks_of f g more; same = λ clean. book_stays clean more };
         cause = told_cause o old new answer result f g told;
         refuses = λ full. absurd (let e = full in omega (e, below, arith));
       }
+    where
+      was : IsTrue new.is_clean → (r : Result T RowFault) → OnOk r (IsTrue old.is_open) → OnOk r (IsTrue (old.is_clean && old.is_open))
+      was honest (Ok x) opened = both_true old.is_clean old.is_open (was_clean old.is_clean new.is_clean asks_of.survives.clean honest) opened
+      was honest (Err fault) opened = tt
+
+      true_by : (r : Result T RowFault) → OnOk r (IsTrue (old.is_clean && old.is_open)) → (IsOfficeBook o old.now → IfOk r IsAnswer) → IfOk r IsAnswer
+      true_by (Ok x) live answers = ∥∥₁_elim rests (alone x) (λ r. answers (r live).kept)
+      true_by (Err fault) live answers = tt
 
 -- a question of the tables is one of a store
 pub asks_of : {X : Type 0} (old new : State) (r : Result X RowFault) (Found : Trees → X → Type 0) → Rows.Asks old new r Found → AsksOf old new
@@ -107,13 +122,13 @@ of_book IsAnswer o b db (Err fault) holds h = tt
 pub question_by : {T : Type 0} (IsAnswer : Office → Book → T → Type 0) (o : Office) (old new : State) (f g : ℕ) (answer : Result T RowFault) (result : Result T StoreFault) → ∥ Rests o old ∥₁ → Rows.Asks old new answer (ByBook IsAnswer) → ((b : Book) (x : T) → IsAlone (IsAnswer o b x)) → f < 2 ^ 64 - 1 → Told answer result f g → Question (tables_state o old f) (tables_state o new g) result (IsAnswer o (book_of old.now.trees))
 question_by IsAnswer o old new f g answer result rests asked alone below told =
     question o old new f g rests (asks_of old new answer (ByBook IsAnswer) asked) answer result (IsAnswer o (book_of old.now.trees)) (alone (book_of old.now.trees)) below told
-    (λ clean kept. of_book IsAnswer o (book_of old.now.trees) old.now.trees answer kept.holds (asked.found (clean_is new.is_clean (first_true new.is_clean new.is_open clean)) kept.layout))
+    asked.answered (λ clean kept. of_book IsAnswer o (book_of old.now.trees) old.now.trees answer kept.holds (asked.found clean kept.layout))
 
 -- so is one that is answered by the book of the office
 pub question_own : {T : Type 0} (o : Office) (IsAnswer : Book → T → Type 0) (old new : State) (f g : ℕ) (answer : Result T RowFault) (result : Result T StoreFault) → ∥ Rests o old ∥₁ → Rows.Asks old new answer (ByOwnBook o IsAnswer) → ((b : Book) (x : T) → IsAlone (IsAnswer b x)) → f < 2 ^ 64 - 1 → Told answer result f g → Question (tables_state o old f) (tables_state o new g) result (IsAnswer (book_of old.now.trees))
 question_own {T} o IsAnswer old new f g answer result rests asked alone below told =
     question o old new f g rests (asks_of old new answer (ByOwnBook o IsAnswer) asked) answer result (IsAnswer (book_of old.now.trees)) (alone (book_of old.now.trees)) below told
-    (λ clean kept. own answer kept.holds (asked.found (clean_is new.is_clean (first_true new.is_clean new.is_open clean)) kept.layout))
+    asked.answered (λ clean kept. own answer kept.holds (asked.found clean kept.layout))
   where
     own : (r : Result T RowFault) → HoldsBook o (book_of old.now.trees) old.now.trees → IfOk r (ByOwnBook o IsAnswer old.now.trees) → IfOk r (IsAnswer (book_of old.now.trees))
     own (Ok x) holds h = h (book_of old.now.trees) holds
@@ -168,7 +183,14 @@ pairs_alone p q x y = λ i. (p x.0 y.0 i, q x.1 y.1 i)
 
 -- what follows of an answer is answered
 pub question_as : {T : Type 0} (old new : store.State) (result : Result T StoreFault) (P Q : T → Type 0) → ((x : T) → P x → Q x) → Question old new result P → Question old new result Q
-question_as {T} old new result P Q follows q = record { answer = λ clean. weaker result (q.answer clean); asks = q.asks; cause = q.cause; refuses = q.refuses }
+question_as {T} old new result P Q follows q = record {
+  answer = λ clean. weaker result (q.answer clean);
+  truth = λ honest. weaker result (q.truth honest);
+  answered = q.answered;
+  asks = q.asks;
+  cause = q.cause;
+  refuses = q.refuses;
+}
   where
     weaker : (r : Result T StoreFault) → IfOk r P → IfOk r Q
     weaker (Ok x) h = follows x h

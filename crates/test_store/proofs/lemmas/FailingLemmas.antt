@@ -24,6 +24,8 @@ goes_on old new Commits fails = record {
 pub question_refused : {T : Type 0} (old new : State) (result : Result T StoreFault) (IsAnswer : T → Type 0) → MediumFails old new → result ≡ Err Refused → Question old new result IsAnswer
 question_refused old new result IsAnswer fails refused = rw refused record {
   answer = never new.is_clean fails.unclean;
+  truth = λ _. tt;
+  answered = λ _. tt;
   asks = record { goes = goes_on old new (λ _. ⊥) fails; same = never new.is_clean fails.unclean };
   cause = fails.refused;
   refuses = λ _. refl;
@@ -32,6 +34,7 @@ question_refused old new result IsAnswer fails refused = rw refused record {
 pub addition_refused : {T : Type 0} (old new : State) (next : Book) (result : Result T StoreFault) (IsAnswer : T → Type 0) → MediumFails old new → result ≡ Err Refused → Addition old new next result IsAnswer
 addition_refused old new next result IsAnswer fails refused = rw refused record {
   added = never new.is_clean fails.unclean;
+  lasting = λ _. tt;
   answer = never new.is_clean fails.unclean;
   unchanged = never new.is_clean fails.unclean;
   goes = goes_on old new (λ book. book ≡ next) fails;

@@ -38,7 +38,7 @@ module _ {S X : Type 0} (g : Ghosts S) (old : Held S) (later new : State) (x : X
       subst HasLayout (sym (shows clean).now_is) (does.does.layout (clean_later clean) refl has),
     );
     says = λ clean has. (comes clean has).1;
-    settled = λ clean. (does.answered (clean_later clean) refl, (shows clean).now_is ∙ sym (shows clean).committed_is);
+    settled = λ clean. (does.answered (clean_later clean) refl, (shows clean).is_open, (shows clean).now_is ∙ sym (shows clean).committed_is);
     was_open = λ clean is_open. does.answered (clean_later clean) refl;
     neither = λ clean is_open. tt;
     survives = alone_survives;

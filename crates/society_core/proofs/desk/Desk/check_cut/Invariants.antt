@@ -10,4 +10,5 @@ invariant-loop-key g l =
     record {
       asks : ChangesNothing (state l.initial.self-inside.store) (state l.self-inside.store);
       due : IsTrue (state l.self-inside.store).is_clean → first_refusal (cut_refusal (state l.initial.self-inside.store).book) l.cut ≡ first_refusal (cut_refusal (state l.initial.self-inside.store).book) (drop l.key-index l.cut);
+      told : IsTrue (state l.self-inside.store).is_honest → first_refusal (cut_refusal (state l.initial.self-inside.store).book) l.cut ≡ first_refusal (cut_refusal (state l.initial.self-inside.store).book) (drop l.key-index l.cut);
     }
