@@ -8,9 +8,9 @@ import socket
 import struct
 import time
 
-from common import FIRST, OFFICE, SENDER, get, put_file, request, works_file
+from common import FIRST, NO_WORKS, OFFICE, SENDER, get, put_file, put_pool, put_return, request, works_file
 from leaving import CLOSED_AT_A_CUT, change, left_by
-from program import BAD, LIMIT, Ended, Other, Server, acknowledgement, answer, applied, run, slow, told, trial
+from program import BAD, LIMIT, Ended, Other, Server, acknowledgement, answer, answered, applied, run, slow, told, trial
 
 # What is answered to a body that is too long, at the end of its connection.
 TOO_LONG = b'HTTP/1.1 413 Payload Too Large\r\nContent-Type: application/json\r\nContent-Length: 16\r\nConnection: close\r\n\r\n{"error":"size"}'
@@ -234,6 +234,28 @@ def a_log_that_cannot_be_copied(program, folder):
         told("its end", server.ended(), Ended(b"listening\nconnection 1: 1 requests\n", b"society: log not copied\n", 0))
     with Server(program, folder, "office.db", existing=True) as server:
         told("opened again", server.sent(get(f"/v1/senders/{SENDER}")), answer(b"200 OK", b'{"front":2,"held":[]}'))
+
+
+# Puts of all kinds behind a first file: a file, a return, and a pool that is cut at the first file.
+PUT_ALL = put_file(NO_WORKS, 2) + put_return(b"isrc,plays,seconds\nATABC2600001,10,200\n") + put_pool(7, 1_000, [[SENDER, 1]], [])
+BUSY = answer(b"503 Service Unavailable", b'{"error":"busy"}')
+NEW = applied(2) + answer(b"201 Created", b'{"state":"stored"}') + answer(b"201 Created", b'{"pool":7,"state":"closed"}')
+AGAIN = answer(b"200 OK", b'{"front":2,"state":"applied"}') + answer(b"200 OK", b'{"state":"stored"}') + answer(b"200 OK", b'{"pool":7,"state":"closed"}')
+
+
+@trial
+def puts_after_a_fault_of_the_disk(program, folder):
+    """While its log can't be written, each put is told that the office is busy and is kept nowhere. The same process takes them once the disk
+    works again, and after it is killed the file holds just what was accepted."""
+    with Server(program, folder, "office.db", connections=5, **limited(resource.RLIMIT_FSIZE, ENOUGH << 20, ENOUGH << 20)) as server:
+        told("before it", server.sent(put_file(FIRST, 1)), applied(1))
+        resource.prlimit(server.process.pid, resource.RLIMIT_FSIZE, (4096, ENOUGH << 20))
+        told("while the disk fails", server.sent(PUT_ALL), BUSY * 3)
+        told("and again", server.sent(PUT_ALL), BUSY * 3)
+        resource.prlimit(server.process.pid, resource.RLIMIT_FSIZE, (ENOUGH << 20, ENOUGH << 20))
+        told("once it works", server.sent(PUT_ALL), NEW)
+    told("after a kill", answered(program, folder, "office.db", PUT_ALL), AGAIN)
+    told("audited", run(program, folder, ["audit", "--db", "office.db", *OFFICE]), Ended(b"sound\n", b"", 0))
 
 
 @trial

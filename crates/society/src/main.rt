@@ -4,9 +4,8 @@
 #![tactic(auto)]
 
 use http_desk::Counted;
-use society_commands::{
-    Host, HostFiles, NoWords, StandardStreams, exit_status, start, why_no_words, without_streams,
-};
+use society_commands::{NoWords, exit_status, start, why_no_words};
+use society_host::{Host, HostFiles, StandardStreams, without_streams};
 use sqlite::Wary;
 use std::env;
 use std::process::ExitCode;
@@ -40,7 +39,7 @@ fn run(rt: &HostRuntime) -> u8 {
     let mut err = Counted::new(rt.stderr());
     // A torn write may leave any bytes: nothing more is supposed of the files.
     let (outcome, left) = start(
-        &Host::new(rt),
+        Host::new(rt),
         HostFiles::new(rt, Wary),
         alloc,
         words.as_slice(),

@@ -2,7 +2,6 @@
 pub mod ClosingLemmas
 pub mod ConnectionLemmas
 pub mod DatabaseLemmas
-pub mod RefusalLemmas
 pub mod ReplayLemmas
 pub mod TableLemmas
 pub mod UnusedLemmas

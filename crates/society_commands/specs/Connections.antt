@@ -1,15 +1,9 @@
 -- What connections come to that are served one after another, and the lines that are printed of them.
-use Rattle.std.specs.Prelude.{◌≡◌, ◌⊎◌, ℕ, ◌+◌, ◌<◌, ◌≤◌, Bool, true, false, IsTrue, List, ⊤, [], ◌∷◌, ◌++◌, Option, Result, Ok, Err, codes, decimal, length}
-use Rattle.std.specs.Io.KnownBytes.{Appends}
-use Rattle.std.specs.List.{flat_map, AllByRecursion}
+use Rattle.std.specs.Prelude.{◌≡◌, ◌⊎◌, ℕ, ◌<◌, ◌≤◌, Bool, true, false, IsTrue, List, ⊤, ◌++◌, Option, Result, Ok, Err, codes, length}
+use Rattle.std.specs.List.{AllByRecursion}
 use Rattle.std.specs.declared.net.socket_addr.SocketAddrV4.{SocketAddrV4}
-use Rattle.std.specs.declared.net.tcp.TcpListener.{TcpListener}
-use Rattle.http_desk.specs.Counted.{failures_of, inner_of}
-use Rattle.http_text.specs.Part.{Part}
 use Rattle.http_desk.specs.Serves.{AreAnswered}
-use Rattle.http_desk.specs.declared.connection.Served.{Served}
 use Rattle.http_desk.specs.declared.counted.Counted.{Counted}
-use Rattle.http_desk.specs.declared.fault.DeskFault.{DeskFault}
 use Rattle.share_rules.specs.declared.office.Office.{Office}
 use Rattle.sqlite.specs.Files.{file_state}
 use Rattle.sqlite.specs.Held.{Held, IsNew}
@@ -18,8 +12,7 @@ use Rattle.sqlite_trees.specs.Tree.{Trees}
 use Rattle.sqlite_disk.specs.declared.Disk as disk
 use Rattle.sqlite_store.specs.declared.store.FileStore.{FileStore}
 use Rattle.society_core.specs.Book.{Book, empty_book}
-use Rattle.society_core.specs.Requests.{Reply}
-use Rattle.society_core.specs.State.{HasFailed, Rises, State}
+use Rattle.society_core.specs.State.{HasFailed, State}
 use Rattle.society_rows.specs.Effects.{MayFail}
 use Rattle.society_rows.specs.Layouts.{HasOlder}
 use Rattle.society_rows.specs.NewBook.{IsBare}
@@ -33,11 +26,9 @@ use Rattle.society_opening.specs.declared.open_fault.OpenFault.{OpenFault}
 use Rattle.society_opening.specs.declared.open_fault.OpenFault.TheVariants.{Empty, Store}
 use Rattle.society_arguments.specs.declared.words.Listening.{Listening}
 use Rattle.society_commands.specs.Closing.{HandsBack}
-use Rattle.society_commands.specs.Doors.{CameIn, HasAdmitted, IsLoopback}
-use Rattle.society_commands.specs.Replays.{fault_text}
-use Rattle.society_commands.specs.declared.door.Door.{Door}
-use Rattle.society_commands.specs.declared.host.Listen.{Ghosts as Listens}
-use Rattle.society_commands.specs.declared.host.OpenDatabase.{Ghosts as Opens}
+use Rattle.desk_connections.specs.Connections.{IsCounted, Prints, ServesEach, connection_lines, parts_brought, replies_given}
+use Rattle.desk_connections.specs.Doors.{AreNumbered, CameIn, Connection, IsLoopback, Network}
+use Rattle.society_commands.specs.declared.machine.OpenDatabase.{Ghosts as Opens}
 use Rattle.society_commands.specs.declared.left.Left.{Left}
 use Rattle.society_commands.specs.declared.left.Left.TheVariants as left
 use Rattle.society_commands.specs.declared.opening.Job.{Job}
@@ -49,87 +40,26 @@ use Rattle.society_arguments.specs.Words.{Asked, AsksAudit, AsksServe, Serving, 
 abbrev pub serving_as : Job → Office → Serving
 serving_as job office = serving_of job.database job.place office
 
--- how many requests a connection brought, by what it came to
-abbrev pub requests_of : Result Served DeskFault → ℕ
-requests_of (Ok served) = served.requests
-requests_of (Err fault) = fault.requests
-
--- a connection brought requests, as many as it tells, and they were answered in turn, each by a call that led the store on
-pub record ServesOne {S : Type 0} (state : S → State) (desk new_desk : S) (outcome : Result Served DeskFault) : Type 0 where
-  pub parts : List Part
-  pub replies : List Reply
-  pub count : requests_of outcome ≡ length parts
-  pub answers : AreAnswered state parts replies desk new_desk
-
--- a connection: the requests that it brought, their answers, and what it came to
-pub record Connection : Type 0 where
-  pub parts : List Part
-  pub replies : List Reply
-  pub outcome : Result Served DeskFault
-
--- what a connection came to tells how many requests it brought
-abbrev pub IsCounted : Connection → Type 0
-IsCounted connection = requests_of connection.outcome ≡ length connection.parts
-
--- the requests of connections, in order
-abbrev pub parts_brought : List Connection → List Part
-parts_brought connections = flat_map (λ (c : Connection). c.parts) connections
-
--- their answers
-abbrev pub replies_given : List Connection → List Reply
-replies_given connections = flat_map (λ (c : Connection). c.replies) connections
-
--- how a connection ended, and after how many requests (profile)
-abbrev pub outcome_text : Result Served DeskFault → List ℕ
-outcome_text (Ok served) = decimal served.requests
-outcome_text (Err fault) = fault_text fault
-
--- the line of a connection under its number (profile)
-abbrev pub connection_line : ℕ → Result Served DeskFault → List ℕ
-connection_line number outcome = codes "connection " ++ decimal number ++ codes ": " ++ outcome_text outcome ++ codes " requests\n"
-
--- the lines of connections that are numbered from here on
-abbrev pub connection_lines : ℕ → List Connection → List ℕ
-connection_lines number [] = []
-connection_lines number (c ∷ connections) = connection_line number c.outcome ++ connection_lines (number + 1) connections
-
--- these bytes were printed, or the printer failed
-abbrev pub Prints : {W : Type 0} → (W → Option (List ℕ)) → Counted W → Counted W → List ℕ → Type 0
-Prints contents out new_out bytes =
-    Rises (failures_of out) (failures_of new_out)
-    ⊎ ((failures_of new_out ≡ failures_of out) × Appends (contents (inner_of out)) (contents (inner_of new_out)) bytes)
-
--- so many connections were served one after another: their requests were answered in turn, and a line was printed for each
-pub record ServesConnections {S W : Type 0} (state : S → State) (desk new_desk : S) (contents : W → Option (List ℕ)) (out new_out : Counted W) (count : ℕ) : Type 0 where
-  pub connections : List Connection
+-- So many connections came in at a port of this machine alone, were served over a store, and nothing else was asked of it; `listening` was
+-- printed before, and a line for each. Each that could be accepted was served, in the order in which they came in and whatever became of
+-- those before; this is whether the next one could not be.
+pub record ServesStore {N D R V S W : Type 0} (net : Network N D R V) (state : S → State) (desk new_desk : S) (contents : W → Option (List ℕ)) (out new_out : Counted W) (port count : ℕ) (failed : Bool) : Type 0 where
+  pub connections : List (Connection R V)
   pub number : length connections ≡ count
-  pub counted : AllByRecursion IsCounted connections
-  pub answers : AreAnswered state (parts_brought connections) (replies_given connections) desk new_desk
-  pub printed : Prints contents out new_out (connection_lines 1 connections)
-
--- fewer connections than were asked for were served, since one could not be accepted at the door
-abbrev pub StopsEarly : {S W : Type 0} → (S → State) → S → S → (W → Option (List ℕ)) → Counted W → Counted W → TcpListener → Door → ℕ → Type 0
-StopsEarly state desk new_desk contents out new_out listener door connections =
-    (count : ℕ) × (count < connections) × ServesConnections state desk new_desk contents out new_out count × HasAdmitted listener door count true
-
--- so many connections came in at a port of this machine alone and were served over a store, and nothing else was asked of it; `listening`
--- was printed before, and a line for each. Each that could be accepted was served, whatever became of those before; this is whether the next
--- one could not be
-pub record ServesStore {N S W : Type 0} (net : Listens N) (state : S → State) (desk new_desk : S) (contents : W → Option (List ℕ)) (out new_out : Counted W) (port count : ℕ) (failed : Bool) : Type 0 where
-  pub connections : List Connection
-  pub number : length connections ≡ count
+  pub numbered : AreNumbered net.ways 1 connections
+  pub each : ServesEach net.ways state connections desk new_desk
   pub counted : AllByRecursion IsCounted connections
   pub answers : AreAnswered state (parts_brought connections) (replies_given connections) desk new_desk
   pub printed : Prints contents out new_out (codes "listening\n" ++ connection_lines 1 connections)
-  pub came_in : CameIn net.listens_at port count failed
+  pub came_in : CameIn net port count failed
 
 -- nothing can listen at a port of this machine alone
-abbrev pub CannotListen : {N : Type 0} → Listens N → ℕ → Type 0
-CannotListen net port = (address : SocketAddrV4) × IsLoopback port address × net.may_fail_at address
+abbrev pub CannotListen : {N D R V : Type 0} → Network N D R V → ℕ → Type 0
+CannotListen net port = (address : SocketAddrV4) × IsLoopback port address × net.listens.may_fail_at address
 
 -- serving over a store ended early, as is told: it could not listen, so the store is the same and nothing was printed; or fewer connections
 -- came than were asked for, and then one could not be accepted
-abbrev pub StopsServingStore : {N S W : Type 0} → Listens N → (S → State) → S → S → (W → Option (List ℕ)) → Counted W → Counted W → Listening → (Trouble → Type 0) → Type 0
+abbrev pub StopsServingStore : {N D R V S W : Type 0} → Network N D R V → (S → State) → S → S → (W → Option (List ℕ)) → Counted W → Counted W → Listening → (Trouble → Type 0) → Type 0
 StopsServingStore net state desk new_desk contents out new_out place Told =
     (CannotListen net place.port × (new_desk ≡ desk) × (new_out ≡ out) × Told NoListener)
     ⊎ ((count : ℕ) × (count < place.connections) × ServesStore net state desk new_desk contents out new_out place.port count true × Told NoConnection)
@@ -138,12 +68,13 @@ StopsServingStore net state desk new_desk contents out new_out place Told =
 abbrev pub IsTakenBook : Office → OlderLayout → Trees → Book → Type 0
 IsTakenBook office layout old book = (new : Trees) × Takes office layout old new × (book ≡ book_of new)
 
--- What a store shows that is opened over what a connection was found with: it is the office's; where there was no table its book is
+-- What a store shows that is opened over what a connection was found with: it is the office's, and has counted no failure; where there was no table its book is
 -- empty, where there were those of layout 3 they held a sound book with what is derived from it, and that is its book, and where there
 -- were those of an older layout its book is that of what they were taken over into. Where the database had to be an office's already,
 -- there were tables. Over a connection that was found open it is clean, unless its disk failed or did not tell the truth.
 pub record IsOver (office : Office) (existing : Bool) (found : connection.State) (begun : State) : Type 0 where
   pub office_is : begun.office ≡ office
+  pub uncounted : begun.failures ≡ 0
   pub faults : found.faults ≤ begun.faults
   pub clean : IsTrue begun.is_honest → IsTrue found.is_open → IsTrue begun.is_clean ⊎ HasFailed found.faults begun.faults
   pub there : IsTrue existing → IsTrue found.is_open → IsTrue begun.is_clean → HasAnyLayout found.committed
@@ -219,37 +150,37 @@ FindsUnsound {F = F} {g = g} opens opener path office out new_out Told rest =
     × (new_out ≡ out)
 
 -- so many connections were served over a store that was opened over what a connection was found with, and this is the store behind them
-abbrev pub ServesDatabase : {N S W : Type 0} → Listens N → (S → State) → Office → Bool → connection.State → S → (W → Option (List ℕ)) → Counted W → Counted W → Listening → Type 0
+abbrev pub ServesDatabase : {N D R V S W : Type 0} → Network N D R V → (S → State) → Office → Bool → connection.State → S → (W → Option (List ℕ)) → Counted W → Counted W → Listening → Type 0
 ServesDatabase {S = S} net state office existing found ended contents out new_out place =
     (begun : S) × IsOver office existing found (state begun) × ServesStore net state begun ended contents out new_out place.port place.connections false
 
 -- serving so ended early, and this is the store then
-abbrev pub StopsServingDatabase : {N S W : Type 0} → Listens N → (S → State) → Office → Bool → connection.State → S → (W → Option (List ℕ)) → Counted W → Counted W → Listening → (Trouble → Type 0) → Type 0
+abbrev pub StopsServingDatabase : {N D R V S W : Type 0} → Network N D R V → (S → State) → Office → Bool → connection.State → S → (W → Option (List ℕ)) → Counted W → Counted W → Listening → (Trouble → Type 0) → Type 0
 StopsServingDatabase {S = S} net state office existing found ended contents out new_out place Told =
     (begun : S) × IsOver office existing found (state begun) × StopsServingStore net state begun ended contents out new_out place Told
 
 -- so many connections were served over a database, and its store is left as they left it
-abbrev pub LeavesServed : {C N S W : Type 0} → Listens N → (S → State) → Office → Bool → connection.State → Result S C → (W → Option (List ℕ)) → Counted W → Counted W → Listening → Type 0
+abbrev pub LeavesServed : {C N D R V S W : Type 0} → Network N D R V → (S → State) → Office → Bool → connection.State → Result S C → (W → Option (List ℕ)) → Counted W → Counted W → Listening → Type 0
 LeavesServed net state office existing found (Ok ended) contents out new_out place = ServesDatabase net state office existing found ended contents out new_out place
 LeavesServed net state office existing found (Err left) contents out new_out place = ⊥
 
 -- serving ended early, and its store is left as the connections left it; or the database was not opened, its connection is left as
 -- opening left it, and nothing was printed
-abbrev pub LeavesBroken : {C N S W : Type 0} → (C → connection.State) → Listens N → (S → State) → Office → Bool → connection.State → Result S C → (W → Option (List ℕ)) → Counted W → Counted W → Listening → (Trouble → Type 0) → Type 0
+abbrev pub LeavesBroken : {C N D R V S W : Type 0} → (C → connection.State) → Network N D R V → (S → State) → Office → Bool → connection.State → Result S C → (W → Option (List ℕ)) → Counted W → Counted W → Listening → (Trouble → Type 0) → Type 0
 LeavesBroken show net state office existing found (Ok ended) contents out new_out place Told =
     StopsServingDatabase net state office existing found ended contents out new_out place Told
 LeavesBroken show net state office existing found (Err left) contents out new_out place Told =
     (fault : OpenFault) × IsNotOpened office existing fault found (show left) × (new_out ≡ out) × Told (Database fault)
 
 -- the database of a path was opened, as many connections as were asked for were served over it, and its store was closed as they left it
-abbrev pub ServesOpened : {F N O S W : Type 0} {g : disk.Ghosts F} → (S → State) → (S → Held (FileStore F g)) → Listens N → Opens O F → Serving → (W → Option (List ℕ)) → Counted W → Counted W → Left F O g → Type 0
+abbrev pub ServesOpened : {F N D R V O S W : Type 0} {g : disk.Ghosts F} → (S → State) → (S → Held (FileStore F g)) → Network N D R V → Opens O F → Serving → (W → Option (List ℕ)) → Counted W → Counted W → Left F O g → Type 0
 ServesOpened {F = F} {S = S} {g = g} state conn_of net opens s contents out new_out rest =
     (conn : Held (FileStore F g)) × IsOpenedAt opens s.path s.existing conn
     × ((ended : Result S (Held (FileStore F g))) × LeavesServed net state s.office s.existing (file_state conn) ended contents out new_out s.place
     × HandsBack state conn_of ended rest)
 
 -- serving so ended early: no database could be opened, and nothing was printed; or this was left of it, and closed where it is a store
-abbrev pub StopsServingOpened : {F N O S W : Type 0} {g : disk.Ghosts F} → (S → State) → (S → Held (FileStore F g)) → Listens N → Opens O F → O → Serving → (W → Option (List ℕ)) → Counted W → Counted W → (Trouble → Type 0) → Left F O g → Type 0
+abbrev pub StopsServingOpened : {F N D R V O S W : Type 0} {g : disk.Ghosts F} → (S → State) → (S → Held (FileStore F g)) → Network N D R V → Opens O F → O → Serving → (W → Option (List ℕ)) → Counted W → Counted W → (Trouble → Type 0) → Left F O g → Type 0
 StopsServingOpened {F = F} {S = S} {g = g} state conn_of net opens opener s contents out new_out Told rest =
     ((fault : OpenFault) × LeavesRefused opens opener s.path s.existing fault rest × (new_out ≡ out) × Told (Database fault))
     ⊎ ((conn : Held (FileStore F g)) × IsOpenedAt opens s.path s.existing conn

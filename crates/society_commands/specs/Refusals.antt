@@ -1,20 +1,9 @@
 -- What is said where the program does not begin, or a database is not opened.
-use Rattle.std.specs.Prelude.{◌≡◌, ◌⊎◌, ℕ, Bool, false, List, [], ◌∷◌, ◌++◌, Result, Ok, Err, bytes_eq, codes, if◌then◌else◌}
+use Rattle.std.specs.Prelude.{ℕ, List, Result, Ok, Err, codes}
 use Rattle.std.specs.declared.io.ErrorKind.{ErrorKind}
-use Rattle.std.specs.declared.io.ErrorKind.TheVariants.{InvalidData, NotFound}
-use Rattle.sqlite.specs.Files.{HoldsDatabase, IsCleanLeft, IsNothing, LeavesFiles, faults_left, faults_of, image_of}
-use Rattle.sqlite.specs.declared.error.Error.{Error}
-use Rattle.sqlite.specs.declared.error.Error.TheVariants.{SqliteFailure}
-use Rattle.sqlite.specs.declared.error.ErrorCode.TheVariants.{DatabaseCorrupt, NotADatabase, OutOfMemory}
-use Rattle.sqlite_disk.specs.Disk.{MoreFaults}
-use Rattle.sqlite_disk.specs.declared.Disk.{Ghosts}
-use Rattle.sqlite_disk.specs.declared.Files.{Files}
-use Rattle.sqlite_trees.specs.Tree.{Trees}
-use Rattle.sqlite_wal.specs.Recovery.{Image}
+use Rattle.std.specs.declared.io.ErrorKind.TheVariants.{InvalidData}
 use Rattle.society_opening.specs.declared.open_fault.OpenFault.{OpenFault}
 use Rattle.society_opening.specs.declared.open_fault.OpenFault.TheVariants as fault
-use Rattle.society_commands.specs.declared.left.Left.{Left}
-use Rattle.society_commands.specs.declared.left.Left.TheVariants.{Refused, Unopened}
 use Rattle.society_commands.specs.declared.starting.NoWords.{NoWords}
 use Rattle.society_commands.specs.declared.starting.NoWords.TheVariants as without
 
@@ -32,44 +21,6 @@ status_without without.Memory = 1
 abbrev pub status_after : Result ℕ NoWords → ℕ
 status_after (Ok status) = status
 status_after (Err why) = status_without why
-
--- what every database file begins with (SQLite's file format, 1.3.1)
-abbrev pub file_header : List ℕ
-file_header = codes "SQLite format 3" ++ 0 ∷ []
-
--- what an error of opening a file is told as: memory was refused, the file is not as it was written or no database at all, or the store failed (profile)
-abbrev pub FaultsAs : Error → OpenFault → Type 0
-FaultsAs (SqliteFailure OutOfMemory) told = told ≡ fault.Memory
-FaultsAs (SqliteFailure NotADatabase) told = (told ≡ fault.Damaged) ⊎ (told ≡ fault.Store)
-FaultsAs (SqliteFailure DatabaseCorrupt) told = told ≡ fault.Damaged
-FaultsAs _ told = told ≡ fault.Store
-
--- what is said of a file in which no database is found, by its first sixteen bytes, or all that it has: it is damaged where it begins as a database, or has no byte, since all may be in its log; else it is none (profile)
-abbrev pub fault_by_start : List ℕ → OpenFault
-fault_by_start [] = fault.Damaged
-fault_by_start (byte ∷ bytes) = if bytes_eq (byte ∷ bytes) file_header then fault.Damaged else fault.Store
-
--- whether a database is there, by the kind of the error of a look at it: it is not where nothing is found, or else the look failed (profile)
-abbrev pub presence_by : ErrorKind → Result Bool OpenFault
-presence_by NotFound = Ok false
-presence_by _ = Err fault.Store
-
--- no database was to be found in what files hold
-abbrev pub HoldsNone : Image → Type 0
-HoldsNone image = ¬ (((db : Trees) × HoldsDatabase image db) ⊎ IsNothing image)
-
--- what is told of a path where no database was opened as an office's: memory was refused, the store failed, or damage (profile)
-abbrev pub IsToldOfNone : OpenFault → Type 0
-IsToldOfNone told = (told ≡ fault.Memory) ⊎ ((told ≡ fault.Store) ⊎ (told ≡ fault.Damaged))
-
--- Files that were as they are known to be when they are opened were refused, and this is left of them: damage is told only where they hold
--- no database or the disk failed, and they are left so that they recover as before. Or no file could be opened.
-abbrev pub RefusesFiles : {D O : Type 0} {g : Ghosts D} → (Files D → Type 0) → OpenFault → Left D O g → Type 0
-RefusesFiles IsAsOpened told (Unopened opener) = IsToldOfNone told
-RefusesFiles {D = D} {g = g} IsAsOpened told (Refused left) =
-    IsToldOfNone told × ((files : Files D) × IsAsOpened files
-    × (IsCleanLeft left → (told ≡ fault.Damaged → HoldsNone (image_of g files) ⊎ MoreFaults (faults_of g files) (faults_left left)) × LeavesFiles files left))
-RefusesFiles IsAsOpened told _ = ⊥
 
 -- what a fault of a database is called on standard error (profile)
 abbrev pub database_fault : OpenFault → List ℕ

@@ -1,5 +1,5 @@
 -- What is written where a stream of bytes is served at an office to which nothing has come, and why a stream breaks off.
-use Rattle.std.specs.Prelude.{◌≡◌, ℕ, IfSome, List, ◌++◌, codes, decimal, length, Option}
+use Rattle.std.specs.Prelude.{◌≡◌, ℕ, IfSome, List, ◌++◌, length, Option}
 use Rattle.std.specs.Io.KnownBytes.{Appends}
 use Rattle.http_desk.specs.Counted.{inner_of}
 use Rattle.http_text.specs.Part.{Part}
@@ -9,17 +9,12 @@ use Rattle.http_text.specs.Text.{texts, ending}
 use Rattle.http_text.specs.declared.connection_end.End.{End}
 use Rattle.http_desk.specs.declared.counted.Counted.{Counted}
 use Rattle.http_desk.specs.declared.fault.DeskFault.{DeskFault}
-use Rattle.http_desk.specs.declared.fault.FaultKind.{FaultKind}
-use Rattle.http_desk.specs.declared.fault.FaultKind.TheVariants.{Memory, Read, Turns, Write}
 use Rattle.share_rules.specs.declared.office.Office.{Office}
+use Rattle.desk_connections.specs.Faults.{most_turns}
 use Rattle.society_core.specs.Book.{Book, empty_book}
 use Rattle.society_core.specs.Headline.{OneContent, HoldsWhatCame}
 use Rattle.society_core.specs.Requests.{Reply}
 use Rattle.society_core.specs.Runs.{Run}
-
--- the most reads of one stream that give bytes (profile)
-abbrev pub most_turns : ℕ
-most_turns = 100000000
 
 -- the requests were answered in turn from the empty book on; the book after them holds what came
 pub record AnswersFromNothing (office : Office) (parts : List Part) (replies : List Reply) : Type 0 where
@@ -50,14 +45,3 @@ pub record BreaksOff {R W : Type 0} (office : Office) (remaining : R → Option 
   pub written : Written office.society fault.kind bytes parts replies (contents (inner_of out)) (contents (inner_of new_out))
   pub count : fault.requests ≡ length parts
   pub cause : CausedBy fault.kind fault.requests most_turns remaining reader new_reader out new_out
-
--- what a fault is called on standard error (profile)
-abbrev pub fault_name : FaultKind → List ℕ
-fault_name Read = codes "read"
-fault_name Write = codes "write"
-fault_name Turns = codes "turns"
-fault_name Memory = codes "memory"
-
--- the fault of a stream, and after how many requests it came (profile)
-abbrev pub fault_text : DeskFault → List ℕ
-fault_text fault = fault_name fault.kind ++ codes " fault after " ++ decimal fault.requests

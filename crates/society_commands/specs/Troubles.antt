@@ -1,9 +1,9 @@
 -- Why the program ends with status 1, and the line that tells so.
 use Rattle.std.specs.Prelude.{ℕ, List, ◌++◌, Option, codes}
 use Rattle.http_desk.specs.declared.counted.Counted.{Counted}
-use Rattle.society_commands.specs.Connections.{Prints}
+use Rattle.desk_connections.specs.Connections.{Prints}
 use Rattle.society_commands.specs.Refusals.{database_fault}
-use Rattle.society_commands.specs.Replays.{fault_text}
+use Rattle.desk_connections.specs.Faults.{fault_text}
 use Rattle.society_commands.specs.declared.trouble.Trouble.{Trouble}
 use Rattle.society_commands.specs.declared.trouble.Trouble.TheVariants.{Database, NoConnection, NoListener, Stream}
 

@@ -1,15 +1,16 @@
 //! Whether a database holds an office's book: told without a word to it.
 ghost use Rattle.std.specs.Prelude.{◌≡◌, ◌⊎◌, codes, false, true};
 ghost use Rattle.sqlite.specs.Held.{state};
-ghost use Rattle.society_commands.specs.Connections.{FindsSound, FindsUnsound, IsSoundDatabase, Prints, TellsUnsound};
+ghost use Rattle.society_commands.specs.Connections.{FindsSound, FindsUnsound, IsSoundDatabase, TellsUnsound};
+ghost use Rattle.desk_connections.specs.Connections.{Prints};
 ghost use Rattle.society_commands.specs.Troubles.{Tells};
 
-use crate::host::OpenDatabase;
 use crate::left::Left;
+use crate::machine::OpenDatabase;
 use crate::opening::open_there;
-use crate::printing::print;
 use crate::replaying::SERVED;
 use crate::trouble::{Trouble, tell};
+use desk_connections::print;
 use http_desk::Counted;
 use share_rules::Office;
 use society_arguments::Database;

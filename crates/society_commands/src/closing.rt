@@ -3,8 +3,8 @@ ghost use Rattle.std.specs.Prelude.{◌≡◌, ◌≢◌};
 ghost use Rattle.society_commands.specs.Closing.{Closes, HandsBack};
 
 use crate::left::Left;
-use crate::printing::print;
 use crate::replaying::SERVED;
+use desk_connections::print;
 use http_desk::Counted;
 use society_core::Store;
 use society_tables::Tables;

@@ -4,28 +4,19 @@
 
 mod auditing;
 mod closing;
-mod connections;
-mod door;
-mod host;
 mod left;
+mod machine;
 mod opening;
-mod parting;
-mod patience;
-mod printing;
 mod replaying;
 mod serving;
 mod starting;
-mod streams;
 mod trouble;
 
 pub use auditing::{audit_database, audit_file};
-pub use connections::serve_connections;
-pub use door::{AcceptFault, Door};
-pub use host::{Host, HostFiles, Listen, OpenDatabase};
 pub use left::Left;
+pub use machine::OpenDatabase;
 pub use opening::{Job, serve_file};
-pub use replaying::{BROKEN_OFF, SERVED, TURNS, replay};
+pub use replaying::{BROKEN_OFF, SERVED, replay};
 pub use serving::serve_store;
 pub use starting::{NoWords, exit_status, start, why_no_words};
-pub use streams::{StandardStreams, without_streams};
 pub use trouble::{Trouble, tell};

@@ -4,13 +4,15 @@ ghost use Rattle.sqlite.specs.Files.{file_state};
 ghost use Rattle.sqlite.specs.Held.{state};
 ghost use Rattle.sqlite.specs.Held.{IsNew};
 ghost use Rattle.society_commands.specs.Connections.{IsNotOpened, IsOpenedAt, IsOver, LeavesBroken, LeavesRefused, LeavesServed, ServesOpened, StopsServingOpened, serving_as};
+ghost use Rattle.desk_connections.specs.Doors.{network};
 ghost use Rattle.society_commands.specs.Troubles.{Tells};
 
 use crate::closing::close_left;
-use crate::host::{Listen, OpenDatabase};
 use crate::left::Left;
+use crate::machine::OpenDatabase;
 use crate::serving::serve_store;
 use crate::trouble::{Trouble, tell};
+use desk_connections::Listen;
 use http_desk::Counted;
 use share_rules::Office;
 use society_arguments::{Database, Listening};
@@ -20,7 +22,6 @@ use society_tables::Tables;
 use sqlite::{Alter, Connection, FileStore};
 use std::alloc::Global;
 use std::io::Write;
-use std::time::Clock;
 
 /// What a start is to serve: a database, and where connections come in and how many.
 #[derive(Clone, Copy)]
@@ -33,8 +34,8 @@ pub struct Job<'a> {
 /// the exit status: 0, or 1 with one line on `err` where the database is not opened, or the port cannot be listened on or a connection
 /// not accepted. That it can't be closed changes no status: its file and the log together are the book then, as while it was open. What is
 /// left of the database comes back, or the opener where it opened nothing.
-pub fn serve_file<N: Listen + Clock, O: OpenDatabase, W: Write, E: Write>(
-    net: &N,
+pub fn serve_file<N: Listen + Drop, O: OpenDatabase, W: Write, E: Write>(
+    net: N,
     opener: O,
     alloc: Global,
     job: Job<'_>,
@@ -43,11 +44,11 @@ pub fn serve_file<N: Listen + Clock, O: OpenDatabase, W: Write, E: Write>(
     err: &mut Counted<E>,
 ) -> (u8, Left<O::File, O>)
     ensures status { (result.0 ≡ 0) ⊎ (result.0 ≡ 1) }
-    ensures served { result.0 ≡ 0 → ServesOpened ⟦<Tables<FileStore<O::File>> as Store>⟧.state (λ t. t.conn) N.Listen O.OpenDatabase
+    ensures served { result.0 ≡ 0 → ServesOpened ⟦<Tables<FileStore<O::File>> as Store>⟧.state (λ t. t.conn) (network N.Listen N.Door.Door N.Door.Sent.Read.remaining N.Door.Given.Write.contents) O.OpenDatabase
         (serving_as job.entry office.now) W.contents out.old out.new result.1 }
     // Nothing is printed where the database is not opened, or nothing can be listened on; else fewer connections came. In each case
     // the clause names what is left of the database.
-    ensures broken_off { result.0 ≡ 1 → StopsServingOpened ⟦<Tables<FileStore<O::File>> as Store>⟧.state (λ t. t.conn) N.Listen O.OpenDatabase opener
+    ensures broken_off { result.0 ≡ 1 → StopsServingOpened ⟦<Tables<FileStore<O::File>> as Store>⟧.state (λ t. t.conn) (network N.Listen N.Door.Door N.Door.Sent.Read.remaining N.Door.Given.Write.contents) O.OpenDatabase opener
         (serving_as job.entry office.now) W.contents out.old out.new (Tells E.contents err.old err.new) result.1 }
 {
     match open_there(opener, job.database) {
@@ -83,8 +84,8 @@ pub(crate) fn open_there<O: OpenDatabase>(
 
 /// Opens a database as the office's, and serves so many connections over it. Answers the exit status as `serve_file`, and hands back
 /// the tables, as the last request left them, or the connection where the office was not opened.
-fn serve_database<N: Listen + Clock, M: Alter, W: Write, E: Write>(
-    net: &N,
+fn serve_database<N: Listen + Drop, M: Alter, W: Write, E: Write>(
+    net: N,
     alloc: Global,
     connection: Connection<M>,
     job: Job<'_>,
@@ -94,9 +95,9 @@ fn serve_database<N: Listen + Clock, M: Alter, W: Write, E: Write>(
 ) -> (u8, Result<Tables<M>, Connection<M>>)
     requires { connection.in_transaction ≡ false }
     ensures status { (result.0 ≡ 0) ⊎ (result.0 ≡ 1) }
-    ensures served { result.0 ≡ 0 → LeavesServed N.Listen ⟦<Tables<M> as Store>⟧.state office.now job.entry.database.existing (state M.Store connection)
+    ensures served { result.0 ≡ 0 → LeavesServed (network N.Listen N.Door.Door N.Door.Sent.Read.remaining N.Door.Given.Write.contents) ⟦<Tables<M> as Store>⟧.state office.now job.entry.database.existing (state M.Store connection)
         result.1 W.contents out.old out.new job.entry.place }
-    ensures broken_off { result.0 ≡ 1 → LeavesBroken (state M.Store) N.Listen ⟦<Tables<M> as Store>⟧.state office.now job.entry.database.existing
+    ensures broken_off { result.0 ≡ 1 → LeavesBroken (state M.Store) (network N.Listen N.Door.Door N.Door.Sent.Read.remaining N.Door.Given.Write.contents) ⟦<Tables<M> as Store>⟧.state office.now job.entry.database.existing
         (state M.Store connection) result.1 W.contents out.old out.new job.entry.place (Tells E.contents err.old err.new) }
 {
     match open_tables(alloc, connection, job.database.existing, office) {

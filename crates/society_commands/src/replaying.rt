@@ -1,17 +1,17 @@
+//! A stream of bytes is served over a book in memory.
 ghost use Rattle.std.specs.Prelude.{◌≡◌, ◌⊎◌};
 ghost use Rattle.http_desk.specs.Serves.{KeepsTurns, NeitherFails};
-ghost use Rattle.society_commands.specs.Replays.{Replays, BreaksOff, fault_name, most_turns};
+ghost use Rattle.society_commands.specs.Replays.{Replays, BreaksOff};
+ghost use Rattle.desk_connections.specs.Faults.{most_turns};
 
 use crate::trouble::{Trouble, tell};
+use desk_connections::TURNS;
 use http_desk::{Counted, DeskFault, FaultKind, serve};
 use share_rules::Office;
 use society_core::Desk;
 use society_tables::Tables;
 use std::alloc::Global;
 use std::io::{Read, Write};
-
-/// Most reads of one stream.
-pub const TURNS: u64 = 100_000_000;
 
 /// Status of a stream that was served to its end.
 pub const SERVED: u8 = 0;
@@ -50,17 +50,5 @@ pub fn replay<R: Read, W: Write, E: Write>(
     match serve(alloc, &mut desk, reader, out, TURNS) {
         Ok(_) => SERVED,
         Err(fault) => tell(err, Trouble::Stream(fault)),
-    }
-}
-
-/// What a fault is called.
-pub fn fault_name(kind: FaultKind) -> &'static str
-    ensures { result.now ≡ fault_name kind }
-{
-    match kind {
-        FaultKind::Read => "read",
-        FaultKind::Write => "write",
-        FaultKind::Turns => "turns",
-        FaultKind::Memory => "memory",
     }
 }

@@ -5,20 +5,22 @@ ghost use Rattle.clap.specs.Words.{kind_of};
 ghost use Rattle.clap.specs.declared.error.kind.ErrorKind.TheVariants.{DisplayHelp, OutOfMemory};
 ghost use Rattle.http_desk.specs.Serves.{KeepsTurns, NeitherFails};
 ghost use Rattle.society_commands.specs.Connections.{FindsSound, FindsUnsound, ServesOpened, StopsServingOpened, IsUnused, UsesNothing};
-ghost use Rattle.society_commands.specs.Replays.{Replays, BreaksOff, most_turns};
+ghost use Rattle.desk_connections.specs.Doors.{network};
+ghost use Rattle.society_commands.specs.Replays.{Replays, BreaksOff};
+ghost use Rattle.desk_connections.specs.Faults.{most_turns};
 ghost use Rattle.society_commands.specs.Refusals.{status_after, no_words_by, status_without};
 ghost use Rattle.society_commands.specs.Troubles.{Tells};
 ghost use Rattle.society_arguments.specs.Words.{AsksHelp, EndsAudit, EndsReplay, EndsServing, IsWrong, WantsReplay, asks};
 
 use crate::auditing::audit_file;
-use crate::host::{Listen, OpenDatabase};
 use crate::left::Left;
+use crate::machine::OpenDatabase;
 use crate::opening::{Job, serve_file};
-use crate::printing::print;
 use crate::replaying::{SERVED, replay};
 use crate::trouble::{Trouble, tell};
 use clap::Error;
 use clap::error::ErrorKind as ClapKind;
+use desk_connections::{Listen, print};
 use http_desk::{Counted, DeskFault, FaultKind};
 use society_arguments::{Words, words_in};
 use society_core::Store;
@@ -26,7 +28,6 @@ use society_tables::Tables;
 use sqlite::FileStore;
 use std::alloc::Global;
 use std::io::{self, ErrorKind, Read, Write};
-use std::time::Clock;
 
 /// Status where the words are none that the program knows.
 const WRONG_WORDS: u8 = 2;
@@ -46,8 +47,8 @@ pub enum NoWords {
 /// database that they name, or audits that database, or tells of the words on `out`; where they are wrong, says so on `err` and reads
 /// and writes nothing else. Answers the exit status: that of `replay`, `serve_file` or `audit_file`, 0 for help, 2 for wrong words;
 /// else memory was refused for the words. What is left of the database comes back with it, and the opener where there is nothing to open.
-pub fn start<N: Listen + Clock, O: OpenDatabase, R: Read, W: Write, E: Write>(
-    net: &N,
+pub fn start<N: Listen + Drop, O: OpenDatabase, R: Read, W: Write, E: Write>(
+    net: N,
     opener: O,
     alloc: Global,
     words: &[String],
@@ -71,9 +72,9 @@ pub fn start<N: Listen + Clock, O: OpenDatabase, R: Read, W: Write, E: Write>(
     ensures kept { EndsReplay (asks words.now) 0 result.0 (λ office. NeitherFails reader.old reader.new out.old out.new) }
     ensures turns { WantsReplay (asks words.now) → IfOk result.0 (λ status. KeepsTurns R.remaining reader.old reader.new most_turns) }
     ensures served { EndsServing (asks words.now) 0 result.0 (λ s. ServesOpened
-        ⟦<Tables<FileStore<O::File>> as Store>⟧.state (λ t. t.conn) N.Listen O.OpenDatabase s W.contents out.old out.new result.1) }
+        ⟦<Tables<FileStore<O::File>> as Store>⟧.state (λ t. t.conn) (network N.Listen N.Door.Door N.Door.Sent.Read.remaining N.Door.Given.Write.contents) O.OpenDatabase s W.contents out.old out.new result.1) }
     ensures stopped { EndsServing (asks words.now) 1 result.0 (λ s. StopsServingOpened
-        ⟦<Tables<FileStore<O::File>> as Store>⟧.state (λ t. t.conn) N.Listen O.OpenDatabase opener s W.contents out.old out.new (Tells E.contents err.old err.new) result.1) }
+        ⟦<Tables<FileStore<O::File>> as Store>⟧.state (λ t. t.conn) (network N.Listen N.Door.Door N.Door.Sent.Read.remaining N.Door.Given.Write.contents) O.OpenDatabase opener s W.contents out.old out.new (Tells E.contents err.old err.new) result.1) }
     ensures sound { EndsAudit (asks words.now) 0 result.0 (λ path office.
         FindsSound O.OpenDatabase path office W.contents out.old out.new result.1) }
     ensures unsound { EndsAudit (asks words.now) 1 result.0 (λ path office.

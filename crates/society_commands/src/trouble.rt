@@ -1,12 +1,12 @@
 //! Why the program does not do what it was asked to: each has a line on standard error.
 ghost use Rattle.std.specs.Prelude.{◌≡◌, ◌++◌, codes};
-ghost use Rattle.society_commands.specs.Connections.{Prints};
+ghost use Rattle.desk_connections.specs.Connections.{Prints};
 ghost use Rattle.society_commands.specs.Refusals.{database_fault};
-ghost use Rattle.society_commands.specs.Replays.{fault_text};
+ghost use Rattle.desk_connections.specs.Faults.{fault_text};
 ghost use Rattle.society_commands.specs.Troubles.{Tells, trouble_text};
 
-use crate::printing::{print, print_number};
-use crate::replaying::{BROKEN_OFF, fault_name};
+use crate::replaying::BROKEN_OFF;
+use desk_connections::{print, print_fault};
 use http_desk::{Counted, DeskFault};
 use society_opening::OpenFault;
 use std::io::Write;
@@ -61,15 +61,6 @@ fn print_stream<E: Write>(err: &mut Counted<E>, fault: DeskFault)
 {
     print_fault(err, &fault);
     print(err, b" requests");
-}
-
-/// Prints what a fault is called, and after how many requests it came.
-pub(crate) fn print_fault<W: Write>(out: &mut Counted<W>, fault: &DeskFault)
-    ensures { Prints W.contents out.old out.new (fault_text fault.now) }
-{
-    print(out, fault_name(fault.kind).as_bytes());
-    print(out, b" fault after ");
-    print_number(out, fault.requests);
 }
 
 // What a fault of a database is called.

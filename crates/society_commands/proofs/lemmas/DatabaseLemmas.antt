@@ -28,14 +28,15 @@ taken_book : {office : Office} {layout : OlderLayout} {old : Database} {s : conn
 taken_book {s = s} taken = (s.now.trees, taken.takes, refl)
 
 -- tables that were opened are those of the office, over what the connection was found with
-is_over : {Commits : Trees → Type 0} (office held : Office) (found begun : connection.State) (failures : ℕ) → connection.Survives found begun Commits → held ≡ office
+is_over : {Commits : Trees → Type 0} (office held : Office) (found begun : connection.State) (failures : ℕ) → connection.Survives found begun Commits → held ≡ office → failures ≡ 0
     → (connection.HasCleanDisk begun → IsTrue found.is_open → IsOpenable found.committed)
     → (connection.HasCleanDisk begun → IsTrue found.is_open → IsBare found.committed → book_of begun.now.trees ≡ empty_book)
     → (connection.HasCleanDisk begun → IsTrue found.is_open → HasLayout found.committed → HoldsOne office found.committed.trees × ShowsAs found.committed begun)
     → (connection.HasCleanDisk begun → IsTrue found.is_open → (layout : OlderLayout) → HasOlder layout found.committed → IsTakenOver office layout found.committed begun)
     → IsOver office false found (tables_state held begun failures)
-is_over office held found begun failures survives same known bare kept taken = record {
+is_over office held found begun failures survives same none known bare kept taken = record {
   office_is = same;
+  uncounted = none;
   faults = survives.counts;
   clean = still_open found begun survives;
   there = λ existing opened clean. absurd (false≢true existing);
@@ -48,12 +49,13 @@ is_over office held found begun failures survives same known bare kept taken = r
 }
 
 -- and tables that were there already
-is_over_there : {Commits : Trees → Type 0} (office held : Office) (found begun : connection.State) (failures : ℕ) → connection.Survives found begun Commits → held ≡ office
+is_over_there : {Commits : Trees → Type 0} (office held : Office) (found begun : connection.State) (failures : ℕ) → connection.Survives found begun Commits → held ≡ office → failures ≡ 0
     → (IsTrue found.is_open → IsBare found.committed → ⊥)
     → FindsOffice office found begun
     → IsOver office true found (tables_state held begun failures)
-is_over_there office held found begun failures survives same empty finds = record {
+is_over_there office held found begun failures survives same none empty finds = record {
   office_is = same;
+  uncounted = none;
   faults = survives.counts;
   clean = still_open found begun survives;
   there = λ existing opened clean. any_layout (finds (tells clean) opened);
@@ -89,24 +91,24 @@ crash_there office found left s = record {
 
 module _ {T C : Type 0} (office : Office) (found : connection.State) (held : T → Office) (shown : T → connection.State) (failures : T → ℕ) (left : C → connection.State) where
   -- what was opened, where a book may begin
-  pub over_any : (r : Result T (OpenFault × C)) → IfOk r (λ t. held t ≡ office)
+  pub over_any : (r : Result T (OpenFault × C)) → IfOk r (λ t. held t ≡ office) → IfOk r (λ t. failures t ≡ 0)
       → IfOk r (λ t. connection.HasCleanDisk (shown t) → IsTrue found.is_open → IsOpenable found.committed)
       → IfOk r (λ t. connection.HasCleanDisk (shown t) → IsTrue found.is_open → IsBare found.committed → book_of (shown t).now.trees ≡ empty_book)
       → IfOk r (λ t. connection.HasCleanDisk (shown t) → IsTrue found.is_open → HasLayout found.committed → HoldsOne office found.committed.trees × ShowsAs found.committed (shown t))
       → IfOk r (λ t. connection.HasCleanDisk (shown t) → IsTrue found.is_open → (layout : OlderLayout) → HasOlder layout found.committed → IsTakenOver office layout found.committed (shown t))
       → MatchResult r (λ t. SurvivesOpening office found (shown t)) (λ e. SurvivesOpening office found (left e.1))
       → IfOk r (λ t. IsOver office false found (tables_state (held t) (shown t) (failures t)))
-  over_any (Ok t) same known bare kept taken crash = is_over office (held t) found (shown t) (failures t) crash same known bare kept taken
-  over_any (Err e) same known bare kept taken crash = tt
+  over_any (Ok t) same none known bare kept taken crash = is_over office (held t) found (shown t) (failures t) crash same none known bare kept taken
+  over_any (Err e) same none known bare kept taken crash = tt
 
   -- and where none may
-  pub over_existing : (P : OpenFault × C → Type 0) (r : Result T (OpenFault × C)) → IfOk r (λ t. held t ≡ office)
+  pub over_existing : (P : OpenFault × C → Type 0) (r : Result T (OpenFault × C)) → IfOk r (λ t. held t ≡ office) → IfOk r (λ t. failures t ≡ 0)
       → (IsTrue found.is_open → IsBare found.committed → IsErrAnd r P)
       → IfOk r (λ t. FindsOffice office found (shown t))
       → MatchResult r (λ t. SurvivesTaking office found (shown t)) (λ e. SurvivesTaking office found (left e.1))
       → IfOk r (λ t. IsOver office true found (tables_state (held t) (shown t) (failures t)))
-  over_existing P (Ok t) same empty kept crash = is_over_there office (held t) found (shown t) (failures t) crash same (λ opened none. empty opened none) kept
-  over_existing P (Err e) same empty kept crash = tt
+  over_existing P (Ok t) same zero empty kept crash = is_over_there office (held t) found (shown t) (failures t) crash same zero (λ opened none. empty opened none) kept
+  over_existing P (Err e) same zero empty kept crash = tt
 
   -- what was not opened, where a book may begin
   pub not_any : (r : Result T (OpenFault × C)) → IfErr r (λ e. connection.HasCleanDisk (left e.1) → IsTrue found.is_open → TellsDatabase office found.committed e.0)

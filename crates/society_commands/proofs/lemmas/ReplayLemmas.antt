@@ -12,7 +12,8 @@ use Rattle.society_core.specs.Headline.{OneContent, HoldsWhatCame}
 use Rattle.society_core.specs.Requests.{Reply}
 use Rattle.society_core.specs.Runs.{Run}
 use Rattle.society_core.specs.State.{State}
-use Rattle.society_commands.specs.Replays.{AnswersFromNothing, Replays, BreaksOff, most_turns}
+use Rattle.society_commands.specs.Replays.{AnswersFromNothing, Replays, BreaksOff}
+use Rattle.desk_connections.specs.Faults.{most_turns}
 
 -- the answers are a run from the empty book on
 pub from_nothing : {S : Type 0} (state : S → State) (office : Office) (desk new_desk : S) (parts : List Part) (replies : List Reply) → (state desk).office ≡ office → (state desk).book ≡ empty_book

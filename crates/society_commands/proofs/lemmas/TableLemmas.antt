@@ -8,7 +8,7 @@ use Rattle.http_desk.proofs.lemmas.AnsweredLemmas.{none_answered}
 use Rattle.share_rules.specs.declared.office.Office.{Office}
 use Rattle.society_core.specs.Book.{empty_book}
 use Rattle.society_core.specs.State.{State}
-use Rattle.society_commands.proofs.lemmas.ConnectionLemmas.{appends_nothing}
+use Rattle.desk_connections.proofs.lemmas.ConnectionLemmas.{appends_nothing}
 use Rattle.society_commands.proofs.lemmas.ReplayLemmas.{from_nothing}
 use Rattle.society_commands.specs.Replays.{BreaksOff}
 

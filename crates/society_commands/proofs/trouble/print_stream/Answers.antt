@@ -1,6 +1,6 @@
 use Rattle.std.proofs.Common.{codes}
-use Rattle.society_commands.specs.Replays.{fault_text}
-use Rattle.society_commands.proofs.lemmas.ConnectionLemmas.{prints_on}
+use Rattle.desk_connections.specs.Faults.{fault_text}
+use Rattle.desk_connections.proofs.lemmas.ConnectionLemmas.{prints_on}
 use Rattle.society_commands.proofs.trouble.print_stream.Goals as goal
 
 pub returns : goal.returns

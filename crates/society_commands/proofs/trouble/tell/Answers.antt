@@ -1,6 +1,6 @@
 use Rattle.std.proofs.Common.{◌++◌, codes}
 use Rattle.society_commands.specs.Troubles.{trouble_text}
-use Rattle.society_commands.proofs.lemmas.ConnectionLemmas.{prints_on}
+use Rattle.desk_connections.proofs.lemmas.ConnectionLemmas.{prints_on}
 use Rattle.society_commands.proofs.trouble.tell.Goals as goal
 
 pub returns-clause-told : goal.returns-clause-told

@@ -1,0 +1,2 @@
+-- What is proved of the definitions, for the proofs of functions.
+pub mod ConnectionLemmas

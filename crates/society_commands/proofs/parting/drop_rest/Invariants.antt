@@ -1,4 +1,0 @@
-use Rattle.society_commands.proofs.parting.drop_rest.Given as goal
-
-abbrev pub decreases-loop-allowed : goal.decreases-loop-allowed
-decreases-loop-allowed g l = l.allowed

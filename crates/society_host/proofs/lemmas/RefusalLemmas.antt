@@ -1,0 +1,34 @@
+-- Files in which no database was opened are refused for what the kit says of them.
+use Rattle.std.proofs.Common.{◌≡◌, ◌⊎◌, inl, inr, subst}
+use Rattle.sqlite.specs.Files.{FailsToOpenFiles, IsCleanLeft, LeavesFiles, faults_left, faults_of, image_of}
+use Rattle.sqlite.specs.declared.error.Error.{Error}
+use Rattle.sqlite.specs.declared.file.Leftover.{Leftover}
+use Rattle.sqlite_disk.specs.Disk.{MoreFaults}
+use Rattle.sqlite_disk.specs.declared.Disk.{Ghosts}
+use Rattle.sqlite_disk.specs.declared.Files.{Files}
+use Rattle.society_host.specs.Refusals.{FaultsAs, HoldsNone, IsToldOfNone}
+use Rattle.society_opening.specs.declared.open_fault.OpenFault.{OpenFault}
+use Rattle.society_opening.specs.declared.open_fault.OpenFault.TheVariants as fault
+
+no_memory : (told : OpenFault) → told ≡ fault.Memory → told ≡ fault.Damaged → ⊥
+no_memory told memory damaged = cc
+
+no_store : (told : OpenFault) → told ≡ fault.Store → told ≡ fault.Damaged → ⊥
+no_store told store damaged = cc
+
+module _ {D : Type 0} {g : Ghosts D} where
+  -- damage is told for what the files held, or since the disk failed
+  damage : (files : Files D) (left : Leftover D g) (e : Error) (told : OpenFault) → FaultsAs e told → FailsToOpenFiles files left e → told ≡ fault.Damaged
+      → HoldsNone (image_of g files) ⊎ MoreFaults (faults_of g files) (faults_left left)
+  damage files left e told as_told (inl memory) damaged = absurd (no_memory told (subst (λ (x : Error). FaultsAs x told) memory as_told) damaged)
+  damage files left e told as_told (inr (inl none)) damaged = inl none.1
+  damage files left e told as_told (inr (inr (inl failed))) damaged = inr failed.1
+  damage files left e told as_told (inr (inr (inr full))) damaged = absurd (no_store told (subst (λ (x : Error). FaultsAs x told) full.0 as_told) damaged)
+
+  -- what the kit says of an opening that failed is what is said of a refusal
+  pub refuses : (Log Base : D → Type 0) (left : Leftover D g) (e : Error) (told : OpenFault) → IsToldOfNone told → FaultsAs e told
+      → (files : Files D) × Log files.log × Base files.db × (IsCleanLeft left → FailsToOpenFiles files left e × LeavesFiles files left)
+      → IsToldOfNone told × ((files : Files D) × (Log files.log × Base files.db)
+      × (IsCleanLeft left → (told ≡ fault.Damaged → HoldsNone (image_of g files) ⊎ MoreFaults (faults_of g files) (faults_left left)) × LeavesFiles files left))
+  refuses Log Base left e told is as_told some =
+      (is, (some.0, (some.1, some.2), λ clean. (damage some.0 left e told as_told (some.3 clean).0, (some.3 clean).1)))

@@ -1,0 +1,185 @@
+//! The files of this machine that hold a database.
+ghost use Rattle.std.specs.Prelude.{◌≡◌, ◌⊎◌, IfErr, false, true};
+ghost use Rattle.sqlite_std_file.specs.File.{IsFresh};
+ghost use Rattle.sqlite_wal.specs.Files.{image_at};
+ghost use Rattle.society_host.specs.Found.{IsFoundIn};
+ghost use Rattle.society_host.specs.Refusals.{FaultsAs, IsToldOfNone, RefusesFiles, fault_by_start, presence_by};
+
+use society_commands::{Left, OpenDatabase};
+use society_opening::OpenFault;
+use sqlite::{Connection, Error, ErrorCode, FileFrom, FileStore, Start};
+use std::fs::{self, File, Permissions};
+use std::io::{ErrorKind, Read, Write};
+use std::os::unix::fs::PermissionsExt;
+
+/// What every database file begins with (SQLite's file format, 1.3.1).
+const HEADER: &[u8] = b"SQLite format 3\0";
+
+/// Bytes of a log that holds no page: it is cut to so many when it was copied.
+const EMPTY_LOG: u64 = 41;
+
+/// Who may read and write a new file: its owner alone.
+const OWN: u32 = 0o600;
+
+/// That group or others may write a file.
+const OTHERS_WRITE: u32 = 0o022;
+
+/// The files of this machine, where `S` stands for what the file that is opened holds. It opens one.
+#[derive(Drop)]
+pub struct HostFiles<'a, S: Start> {
+    runtime: &'a HostRuntime,
+    found: Option<S>,
+}
+
+impl<'a, S: Start> HostFiles<'a, S> {
+    /// The files of this runtime's machine.
+    pub fn new(runtime: &'a HostRuntime, found: S) -> HostFiles<'a, S> {
+        HostFiles {
+            runtime,
+            found: Some(found),
+        }
+    }
+}
+
+impl<'a, S: Start> OpenDatabase for HostFiles<'a, S> {
+    type File = FileFrom<S>;
+
+    // No clause of the system's ties a path to what is there.
+    ghost may_find = { λ path found. Unit {0} };
+
+    // Nor to bytes: `S` stands for those of the file that is opened.
+    ghost may_open = { λ path s. IsFoundIn (image_at S.Start) s };
+
+    ghost may_fail = { λ path fault. IsToldOfNone fault };
+
+    ghost may_refuse = { λ g path fault rest. RefusesFiles (λ files. IsFresh true files.log × IsFresh false files.db) fault rest };
+
+    fn has_database(&self, path: &str) -> Result<bool, OpenFault> {
+        look(self.runtime, path)
+    }
+
+    fn open_database(
+        self,
+        path: &str,
+    ) -> Result<Connection<FileStore<Self::File>>, (OpenFault, Left<Self::File, Self>)> {
+        let runtime = self.runtime;
+        let used = HostFiles {
+            runtime,
+            found: None,
+        };
+        let was_there = match look(runtime, path) {
+            Ok(was_there) => was_there,
+            Err(fault) => return Err((fault, Left::Unopened(used))),
+        };
+        let Some(found) = self.found else {
+            return Err((OpenFault::Store, Left::Unopened(used)));
+        };
+        match Connection::open_from(runtime, path, false, found) {
+            Ok(connection) => {
+                guard(runtime, path, was_there);
+                Ok(connection)
+            }
+            Err((error, Some(files))) => {
+                Err((fault_at(runtime, path, &error), Left::Refused(files)))
+            }
+            Err((error, None)) => Err((fault_at(runtime, path, &error), Left::Unopened(used))),
+        }
+    }
+}
+
+/// Whether there is a database at a path, as `has_database` says.
+fn look(runtime: &HostRuntime, path: &str) -> Result<bool, OpenFault>
+    ensures { IfErr result IsToldOfNone }
+{
+    match fs::metadata(runtime, path) {
+        Ok(file) if !file.is_file() => Err(OpenFault::Store),
+        Ok(file) if file.len() > 0 => Ok(true),
+        Ok(_) => without_log(runtime, path),
+        Err(error) => match presence_by(error.kind()) {
+            Ok(_) => without_log(runtime, path),
+            Err(fault) => Err(fault),
+        },
+    }
+}
+
+/// That there is no database, where no log with a page stands beside: such a log is what is left of one.
+fn without_log(runtime: &HostRuntime, path: &str) -> Result<bool, OpenFault>
+    ensures { IfErr result IsToldOfNone }
+{
+    let Ok(log) = format!(in runtime.alloc(); "{path}-wal") else {
+        return Err(OpenFault::Memory);
+    };
+    match fs::metadata(runtime, log.as_str()) {
+        Ok(file) if file.len() > EMPTY_LOG => Err(OpenFault::Damaged),
+        Ok(_) => Ok(false),
+        Err(error) => presence_by(error.kind()),
+    }
+}
+
+/// Leaves a new file, and its log, to its owner alone, and says on standard error where others may write one that was there.
+fn guard(runtime: &HostRuntime, path: &str, was_there: bool) {
+    if !was_there {
+        let _ = fs::set_permissions(runtime, path, Permissions::from_mode(OWN));
+        if let Ok(log) = format!(in runtime.alloc(); "{path}-wal") {
+            let _ = fs::set_permissions(runtime, log.as_str(), Permissions::from_mode(OWN));
+        }
+    }
+    if let Ok(file) = fs::metadata(runtime, path) {
+        if file.permissions().mode() & OTHERS_WRITE != 0 {
+            let _ = writeln!(runtime.stderr(), "society: others may write {path}");
+        }
+    }
+}
+
+/// What it says of a database's presence that a look at its path failed so: that there is none, or that the store failed.
+fn presence_by(kind: ErrorKind) -> Result<bool, OpenFault>
+    ensures { result ≡ presence_by kind }
+{
+    match kind {
+        ErrorKind::NotFound => Ok(false),
+        _ => Err(OpenFault::Store),
+    }
+}
+
+/// What an error of opening the database at a path says. Where SQLite finds no database in the files, the file's first bytes tell whether
+/// it was one.
+fn fault_at(runtime: &HostRuntime, path: &str, error: &Error) -> OpenFault
+    ensures faults { FaultsAs error.now result }
+    ensures told { IsToldOfNone result }
+{
+    match error {
+        Error::SqliteFailure(ErrorCode::OutOfMemory) => OpenFault::Memory,
+        Error::SqliteFailure(ErrorCode::NotADatabase) => no_database(runtime, path),
+        Error::SqliteFailure(ErrorCode::DatabaseCorrupt) => OpenFault::Damaged,
+        _ => OpenFault::Store,
+    }
+}
+
+/// What is said of a file in which SQLite finds no database: it is damaged where it begins as one, or has no byte and so all that was
+/// written to it in its log; else it is none.
+fn no_database(runtime: &HostRuntime, path: &str) -> OpenFault
+    ensures { (result ≡ OpenFault.Damaged) ⊎ (result ≡ OpenFault.Store) }
+{
+    let mut first = [0; HEADER.len()];
+    match File::open(runtime, path) {
+        Ok(mut file) => match file.read(&mut first) {
+            Ok(count) => fault_by_start(&first[..count]),
+            Err(_) => OpenFault::Store,
+        },
+        Err(_) => OpenFault::Store,
+    }
+}
+
+/// What is said of such a file by its first bytes, sixteen or all that it has.
+fn fault_by_start(first: &[u8]) -> OpenFault
+    ensures { result ≡ fault_by_start first.now }
+{
+    if first.is_empty() {
+        return OpenFault::Damaged;
+    }
+    if first == HEADER {
+        OpenFault::Damaged
+    } else {
+        OpenFault::Store
+    }
+}
