@@ -1,16 +1,17 @@
 #!/usr/bin/env python3
 """Lists what a revision tests: the names of its tests, the values that stand in them, and the edits that the check must refuse.
 
-    bench/cases.py REVISION             each test and each edit by name, with counts for each crate
-    bench/cases.py BEFORE AFTER         what BEFORE has and AFTER lacks, by name; then each value that stands in the
+    tools/cases.py REVISION             each test and each edit by name, with counts for each crate
+    tools/cases.py BEFORE AFTER         what BEFORE has and AFTER lacks, by name; then each value that stands in the
                                         tests of AFTER fewer times than in those of BEFORE, with both counts
 
 Run it anywhere in the repository. A value is a number or a text in a file of tests: a module that the root of its crate names
 under cfg(test), and the library of sample bodies; a script of trials/ is one too, and each trial a test. "a" and b"a" are one value, and a
-text of five bytes or more is not listed where it stands within another of AFTER. The data of the program of rows counts too: each row and each folder of rows is a test by its
-name, each file is a text, and so is each number in one. A test is not listed as lacking where AFTER has a row of its name, in a file or
-in a table of a test. A value that stands fewer times need not be a case that was dropped, since several tests may share one table or one
-sample: read the list.
+text of five bytes or more is not listed where it stands within another of AFTER. The data of the program of rows counts too: each row and
+each folder of rows is a test by its name, each file is a text, and so is each number in one. So do the files of the program of cases: each
+group is a test by its name, and each line, body, word and number is a value. A test is not listed as lacking where AFTER has a row of its
+name, in a file or in a table of a test. A value that stands fewer times need not be a case that was dropped, since several tests may share
+one table or one sample: read the list.
 """
 import ast
 import collections
@@ -20,6 +21,7 @@ import sys
 
 LIBRARY_OF_BODIES = "test_bodies"
 PROGRAM_OF_ROWS = "test_rows"
+PROGRAM_OF_CASES = "test_cases"
 TRIALS = "trials"
 TOKEN = re.compile(
     r"""(?P<comment>//[^\n]*)
@@ -67,6 +69,31 @@ def rows(revision, names):
         if name.startswith(front):
             path, _, ending = name[len(front) :].rpartition(".")
             yield path.split("/"), ending, git_bytes("show", f"{revision}:{name}")
+
+
+def written(text):
+    """The bytes that a text of a file of cases writes: those within its quotes, if it has them."""
+    inside = text[1:-1] if len(text) > 1 and text[0] == text[-1] == '"' else text
+    raw = inside.encode()
+    for escape, byte in ((rb"\\n", b"\n"), (rb"\\r", b"\r"), (rb"\\t", b"\t")):
+        raw = re.sub(escape, byte, raw)
+    return re.sub(rb"\\x([0-9A-F]{2})", lambda digits: bytes([int(digits[1], 16)]), raw)
+
+
+def case_values(text):
+    """The values of a file of cases: each of its lines, words and numbers, and the bodies that its lines make."""
+    body = b""
+    for line in [*text.splitlines(), ": "]:
+        if line.startswith((":", "==")):
+            yield body
+            body = b""
+        elif line.startswith("|"):
+            body += written(line[2:]) + b"\n"
+        elif line.startswith("repeat "):
+            body += written(line.split(" ", 3)[3])
+        yield written(line)
+        yield from (written(word) for word in re.findall(r'"[^"]*"|[^\s,;:|]+', line))
+        yield from (int(number) for number in re.findall(r"(?<!\w)\d+(?!\w)", line))
 
 
 def value(token):
@@ -117,11 +144,28 @@ class Cases:
             if ending == "http":
                 self.tests.append((PROGRAM_OF_ROWS, "::".join(path[:-1]), path[-1]))
             self.counts[PROGRAM_OF_ROWS].update(tests=ending == "http", values=1 + len(numbers))
+        self.add_sheets(revision, names)
         for name in names:
             edit = re.fullmatch(r"crates/(\w+)/must-fail/(\w+)\.edit", name)
             if edit:
                 self.edits.append((edit[1], edit[2]))
                 self.counts[edit[1]].update(edits=1)
+
+    def add_sheets(self, revision, names):
+        """Adds the files of cases, and the files that they take."""
+        for name in names:
+            sheet = re.fullmatch(rf"crates/{PROGRAM_OF_CASES}/data/(\w+)\.(\w+)", name)
+            if not sheet:
+                continue
+            data = git_bytes("show", f"{revision}:{name}")
+            if sheet[2] != "cases":
+                self.values.update([data])
+                continue
+            text = data.decode()
+            groups, found = re.findall(r"^== (\w+)$", text, re.M), list(case_values(text))
+            self.tests += [(PROGRAM_OF_CASES, sheet[1], group) for group in groups]
+            self.values.update(found)
+            self.counts[PROGRAM_OF_CASES].update(tests=len(groups), values=len(found))
 
 
 def print_counts(cases):
