@@ -2,8 +2,8 @@
 """Tries society-backup and society-restore on a running office: what they leave, and that the office is never left halted.
 
 A backup is made under load, over an office that is down, into a full disk (a small tmpfs; as root), killed in the middle, by signals
-too, beside a second one, with a copying that hangs, beside a strange process, with old copies, of files that were moved away under the
-office, and of a log in which a bit was changed. Then restores: over the running office, of a damaged file, with another front than the one
+too, beside a second one, also into another folder, with a copying that hangs, beside a strange process, with old copies, of files that
+were moved away under the office, and of a log in which a bit was changed. Then restores: over the running office, of a damaged file, with another front than the one
 that is given, two at once, beside a backup, on a new machine, stopped in the middle, and killed before each program that they run.
 `systemctl` and, where a moment has to be met, other programs are stand-ins that this script makes. Ends with status 1 where anything differs.
 """
@@ -300,6 +300,25 @@ def two_at_once(office):
 
 
 @trial
+def one_elsewhere(office):
+    """A backup into another folder waits while one has the office halted, and takes its own older copies away where it is told to."""
+    office.send(2)
+    office.tool("cp", SLOW_CP)
+    others = office.folder / "others"
+    running = office.held()
+    waiting = office.backup("--to", others, "--keep", "1")
+    time.sleep(1)
+    check("the first one's office is still halted", office.state(), "T")
+    office.let_go()
+    check("both", [ended(running)[0], ended(waiting)[0]], [0, 0])
+    check("the office goes on", office.goes_on())
+    (first,) = others.glob("office-*.db")
+    time.sleep(1.1)
+    check("another one", office.backed_up("--to", others, "--keep", "1")[0], 0)
+    check("only it stays", [it != first for it in others.glob("office-*.db")], [True])
+
+
+@trial
 def a_copying_that_hangs(office):
     office.send(2)
     # (two folders below the one in which it finds its module)
@@ -334,7 +353,7 @@ def strangers_and_wrong_places(office):
     office.stop()
     with open(office.database, "rb"):
         failed("a process that is no office", office.backed_up(), "is no office")
-    check("wrong words", [office.backed_up(*it)[0] for it in (["--days", "0"], ["--what", "1"], ["--days"])], [2, 2, 2])
+    check("wrong words", [office.backed_up(*it)[0] for it in (["--days", "0"], ["--keep", "0"], ["--what", "1"], ["--days"])], [2] * 4)
 
 
 @trial
@@ -349,6 +368,7 @@ def old_ones(office):
     os.utime(office.copies / "mine.db", (0, 0))
     check("a backup", office.backed_up("--days", "7")[0], 0)
     made = office.newest().name
+    check("its time is that of what it holds", abs(office.newest().stat().st_mtime - time.time()) < 60)
     check("what is kept", sorted(it.name for it in office.copies.glob("*.db")), sorted([made, "office-1.db", "office-6.db", "mine.db"]))
     for it in office.copies.glob("office-*.db"):
         os.utime(it, (time.time() - 40 * 86_400 - (it.name == made),) * 2)

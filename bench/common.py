@@ -239,10 +239,10 @@ def free_port():
 
 
 class Server:
-    """`society serve` over a database file, on a free port, once it listens; killed at the end of a `with`."""
+    """`society serve` over a database file, on a port, else a free one, once it listens; killed at the end of a `with`."""
 
-    def __init__(self, program, database):
-        self.port, begun = free_port(), time.monotonic()
+    def __init__(self, program, database, port=None):
+        self.port, begun = port or free_port(), time.monotonic()
         options = ["--db", str(database), "--port", str(self.port), "--connections", "1000000", *OFFICE]
         self.process = subprocess.Popen([program, "serve", *options], stdout=subprocess.PIPE)
         line = self.process.stdout.readline()

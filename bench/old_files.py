@@ -1,8 +1,9 @@
 #!/usr/bin/env python3
 """Opens files of older layouts, and measures how long taking one over takes.
 
-With a folder of samples: each NAME.layoutN*.db is audited, which writes nothing to it, opened, and sent NAME.later.http, whose answers have
-to be those of NAME.later.answers, byte for byte. Then changed rows of each are refused, and the file's bytes stay.
+With a folder of samples: each NAME.layoutN*.db is audited, which writes nothing to it, and rebuilt: all that it has is sent to an empty
+office of today, which has to be the same as the file once it is taken over. It is opened, and sent NAME.later.http, whose answers have to
+be those of NAME.later.answers, byte for byte. Then changed rows of each are refused, and the file's bytes stay.
 
 With --measure: a file of so many transmissions of one work is filled, made a file of layout 2 and one of layout 1 by `sqlite3`, and opened in
 each layout; reported are the seconds that passed and the peak memory until it listens. Ends with status 1 where anything differs.
@@ -16,7 +17,7 @@ import sys
 import tempfile
 
 import common
-from common import OFFICE, Server
+from common import OFFICE, ROOT, Server
 
 # What makes layout 2 of layout 3, and layout 1 of layout 2.
 SECOND = "DROP TABLE mechanical_pools; DROP TABLE segment_ends; UPDATE office SET layout = 2;"
@@ -64,6 +65,13 @@ def audited(program, path):
     return run.stdout.decode().strip(), path.read_bytes() == before
 
 
+def rebuilt(program, path):
+    """Whether an empty office that gets all that the file has is the same as the file once it is taken over; the file stays as it was."""
+    before = path.read_bytes()
+    run = subprocess.run([ROOT / "office/society-office", "rebuild", path, "--program", program], capture_output=True, text=True)
+    return run.returncode == 0 and "follows from what was sent: " in run.stdout and path.read_bytes() == before
+
+
 def refused(program, path):
     """What is told where a file is not opened, and whether it is as it was."""
     before = path.read_bytes()
@@ -80,6 +88,8 @@ def try_sample(program, folder, sample):
     work.chmod(0o600)
     if audited(program, work) != ("sound", True):
         wrong.append("audit")
+    if not rebuilt(program, work):
+        wrong.append("rebuilt")
     with Server(program, work) as server:
         seen = answers_to(server, sample.with_name(f"{name}.later.http").read_bytes())
     if seen != sample.with_name(f"{name}.later.answers").read_bytes():

@@ -1,8 +1,8 @@
 #!/usr/bin/env bash
 # Tries the packages in two machines, which are booted containers of Debian 12 with systemd. The first: both packages installed, configured, an
-# office begun, served behind the packaged proxy with a certificate of its own, a trial office, a backup, pages, health, removed, purged. The
-# second: an office of the packages from before, upgraded while it runs, purged; then the first one's backup restored there, and the restore
-# killed at each step.
+# office begun, served behind the packaged proxy with a certificate of its own, a trial office, a backup, pages, health, a standby, rebuilt,
+# removed, purged. The second: an office of the packages from before, upgraded while it runs, purged; then the first one's backup restored
+# there, and the restore killed at each step.
 #
 #     bench/package_trials.sh [FOLDER]
 #
@@ -21,7 +21,8 @@ both() {
 export DEBIAN_FRONTEND=noninteractive
 file=/var/lib/society/office.db settings=/etc/society/office.conf
 o=http://127.0.0.1:23080/v1 s=https://localhost:8443 proxy=/etc/society/proxy
-units="society society-proxy society-trial society-site society-health society-backup"
+units="society society-proxy society-trial society-site society-health society-backup society-standby society-rebuild"
+timers="society-backup.timer society-site.timer society-health.timer society-standby.timer society-rebuild.timer"
 
 # What a command prints has to have this text in it: `has NAME TEXT COMMAND ..`.
 has() {
@@ -53,8 +54,7 @@ INSIDE
 one() {
   cat <<'INSIDE'
 has "installed" "Setting up society-office" install_these /srv/society_*.deb /srv/society-office_*.deb
-has "no service is enabled" "disabled disabled disabled disabled disabled disabled" \
-  sh -c 'systemctl is-enabled society society-proxy society-trial society-backup.timer society-site.timer society-health.timer | xargs'
+has "no service is enabled" "8 disabled" sh -c "systemctl is-enabled society society-proxy society-trial $timers | sort | uniq -c"
 for it in $units; do
   has "the unit $it" "status 0" sh -c "systemd-analyze verify --man=no $it.service; echo status \$?"
   # (a backup has to be root's, halts another's process, and reads its files)
@@ -132,6 +132,40 @@ mv /var/lib/society/away $file
 has "a backup with the office down" "Result=success" sh -c 'systemctl stop society; systemctl start society-backup; systemctl show society-backup -p Result'
 cp "$(newest)" /srv/backup.db
 systemctl start society
+
+second() { ask http://127.0.0.1:8082/v1/senders/PB000000012; }
+second_office() {
+  systemd-run --quiet --unit=second --uid=_society --property=WorkingDirectory=/var/tmp /usr/bin/society serve --db /var/tmp/second.db --port 8082 \
+    --connections 100000 --society 900 --territory 40 "--name=EXAMPLE SOCIETY"
+}
+put_by_proxy() { tls PB000000012 -o /dev/null -w '%{http_code}' -T "/srv/$1.cwr" $s/v1/senders/PB000000012/transmissions/$1; }
+second_office
+has "a standby, begun empty" '{"front":0,"held":[]}' second
+has "what it lacks, by its unit" "Result=success" ended society-standby
+has "it has all" '{"front":1,"held":[]}' second
+has "that is told" "has all that came until" journalctl -q -u society-standby
+has "the mirror is on by a line" 201 bash -c "sed -i '0,/        default \"\";/s//        default http:\/\/127.0.0.1:8082;/' $proxy/nginx.conf; systemctl reload society-proxy; sleep 2
+  $(declare -f tls put_by_proxy); proxy=$proxy; s=$s; put_by_proxy 2"
+has "a put is mirrored" '{"front":2,"held":[]}' seconds 2 second
+systemctl stop second
+sed s/W1/W3/ /srv/1.cwr > /srv/3.cwr
+has "nobody notices that it is away" 201 put_by_proxy 3
+has "nor does its unit fail yet" "Result=success" ended society-standby
+has "it tells what came since" "fronts of 1 sender (PB000000012 from 1 to 3)" journalctl -q -u society-standby
+echo 'STANDBY_OPTIONS=--behind 0' > /etc/default/society-office
+has "it fails where that is for longer than stated" "Result=exit-code" ended society-standby
+echo 'HEALTH_OPTIONS=--office http://127.0.0.1:23080 --standby /var/lib/society-standby/state.json --minutes 0' > /etc/default/society-office
+has "health tells it" "WRONG  standby" sh -c 'systemctl start society-health; journalctl -q -n 20 -u society-health'
+second_office
+rm /etc/default/society-office
+has "back again" "Result=success" ended society-standby
+has "it has all" '{"front":3,"held":[]}' second
+has "of its copies the newest stays" 1 sh -c 'ls /var/lib/society-standby/*.db | wc -l'
+systemctl stop second
+has "another backup" "Result=success" ended society-backup
+has "rebuilt by its unit" "Result=success" ended society-rebuild
+has "that is told" "follows from what was sent: 3 files, 1 return, 1 pool" journalctl -q -u society-rebuild
+
 kept=$(book)
 has "removed while all run" "Removing society" apt-get remove -y society society-office
 has "they have stopped" "inactive inactive inactive" sh -c 'systemctl is-active society society-proxy society-trial | xargs'
@@ -145,6 +179,7 @@ has "the backups are there" "office-" newest
 has "settings are gone" "No such file" cat $settings
 has "no link that leads nowhere" none dangling
 has "what was made of copies is gone" "No such file" ls /var/lib/society-site
+has "also for a standby" "No such file" ls /var/lib/society-standby
 INSIDE
 }
 
@@ -162,7 +197,7 @@ has "upgraded while it runs" "the office runs the program of before" install_the
 has "it runs on" '{"front":1,"held":[]}' front
 has "the book is the same" same is_same_book
 has "its owner stays" "office office 600" stat -c '%U %G %a' $file
-has "all units are there" "6" sh -c "for it in $units; do systemctl cat \$it.service > /dev/null && echo \$it; done | wc -l"
+has "all units are there" "8" sh -c "for it in $units; do systemctl cat \$it.service > /dev/null && echo \$it; done | wc -l"
 has "still enabled" "enabled enabled enabled enabled" sh -c 'systemctl is-enabled society society-backup.timer society-site.timer society-health.timer | xargs'
 has "started again" '{"front":1,"held":[]}' sh -c "systemctl restart society; $(declare -f ask front); o=$o; front"
 has "as its owner" "office" sh -c 'ps -o user= -p "$(systemctl show -p MainPID --value society)" 2> /dev/null || stat -c %U /proc/$(systemctl show -p MainPID --value society)'

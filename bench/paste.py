@@ -27,6 +27,7 @@ import common
 from common import ROOT
 
 DOCUMENTS = ["README.md", "docs/OPERATIONS.md", "docs/FAULTS.md", "docs/PUBLISHERS.md", "docs/STATIONS.md", "docs/OFFICE.md"]
+PRACTICE = "bench/practice.sh"
 FENCE = re.compile(r"^( *)(```+|~~~+) *(\w*) *$")
 PORT = re.compile(r"--port[ =](\d+)|127\.0\.0\.1:(\d+)|localhost:(\d+)")
 # What bash says of its jobs: `[1] 4711`, `[1]+  Terminated  ..`, `bash: line 3:  4711 Terminated  ..`.
@@ -217,8 +218,8 @@ def pasted(name, checkout, path, seconds):
 
 
 def ports_in_use(names):
-    """The ports which the documents name that another program has."""
-    named = {int(next(filter(None, it.groups()))) for name in names for it in PORT.finditer((ROOT / name).read_text())}
+    """The ports which the documents, and the script that some of them begin with, name, and another program has."""
+    named = {int(next(filter(None, it.groups()))) for name in [*names, PRACTICE] for it in PORT.finditer((ROOT / name).read_text())}
     for port in sorted(named):
         with socket.socket() as it:
             it.setsockopt(socket.SOL_SOCKET, socket.SO_REUSEADDR, 1)

@@ -49,7 +49,7 @@ class Proxy:
     def configure(self, office_port, changes):
         """The example with other ports; without a trial office its port leads to one that nobody listens on."""
         text = (ROOT / "examples/nginx.conf").read_text()
-        ports = {"8443": self.port, "8444": self.trial_port, "8080": office_port, "8081": self.trial_office_port}
+        ports = {"8443": self.port, "8444": self.trial_port, "8445": common.free_port(), "8080": office_port, "8081": self.trial_office_port}
         for old, new in [*changes, ("/var/lib/society-site", str(self.pages)), *((old, str(new)) for old, new in ports.items())]:
             assert old in text, f"examples/nginx.conf has no {old}"
             text = text.replace(old, new)

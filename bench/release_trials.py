@@ -21,7 +21,8 @@ case "$1" in
   run) mkdir -p out && cp {program} out/society && echo "rt: running" >&2 ;;
 esac
 """
-# Trials of the program, all as wanted.
+# Trials of the program, and tests of society-office, all as wanted.
+TOOLS = "#!/bin/sh\necho '3 passed in 0.01s'\n"
 TRIALS = "def builds():\n    return []\n\n\ndef check(programs):\n    return 34, 0\n"
 PROGRAM = "/bin/true"
 SOURCE, DEFINITION, PROOF = "crates/work_ids/src/lib.rt", "crates/work_ids/specs/Lib.antt", "crates/work_ids/proofs/Lib.antt"
@@ -40,6 +41,7 @@ class Checkout:
                 (self.top / name).parent.mkdir(parents=True, exist_ok=True)
                 shutil.copy(ROOT / name, self.top / name)
         self.write("trials/run.py", TRIALS)
+        self.write("office/check", TOOLS)
         self.tools.mkdir()
         (self.tools / "rt").write_text(TOOLCHAIN.format(program=PROGRAM))
         (self.tools / "rt").chmod(0o755)
@@ -131,7 +133,7 @@ def of_a_changed_program(it, why):
     kept = (it.top / "release/society").read_bytes()
     it.add("release/society")
     yield "a byte more in release/society", it.run(*why), (1, "is not the file whose sum")
-    yield "the gate fails", it.gate(), (1, "39 passed, 1 failed")
+    yield "the gate fails", it.gate(), (1, "45 passed, 1 failed")
     it.run("sh", "-c", "cd release && sha256sum society > society.sha256")
     yield "also where its sum was renewed", it.gate(), (1, "release: FAILED: release/society is not the program that was built")
     (it.top / "release/society").write_bytes(kept)

@@ -235,12 +235,14 @@ def tell_why(copy: pathlib.Path, sender: str) -> None:
 @click.option("--backups", type=PATH, metavar="FOLDER", help="The folder of the backups (*.db).")
 @click.option("--state", type=PATH, metavar="FILE", help="Where fronts, and what was said of a backup, are kept for next time.")
 @click.option("--certificate", metavar="WHERE", help="The proxy's certificate: a file, or host:port.")
+@click.option("--standby", type=PATH, metavar="FILE", help="What `resend --state` keeps of a standby.")
 @click.option("--program", metavar="FILE", help="The program that audits the backup (default: `society` on the PATH).")
 @click.option("--seconds", default=5.0, show_default=True, help="An answer takes no longer.")
 @click.option("--memory", default=67.0, show_default=True, help="A start needs so many percent of the memory it may take.")
 @click.option("--free", default=10.0, show_default=True, help="The disk has so many percent free.")
 @click.option("--hours", default=30.0, show_default=True, help="The newest backup is no older.")
 @click.option("--days", default=14.0, show_default=True, help="The certificate has as many days left.")
+@click.option("--minutes", default=15.0, show_default=True, help="The standby has been behind for no longer.")
 @click.option("--json", "form", flag_value="json", help="As JSON.")
 @click.option("--metrics", "form", flag_value="metrics", help="As text for Prometheus.")
 def tell_health(**given: Any) -> None:
@@ -248,15 +250,16 @@ def tell_health(**given: Any) -> None:
 
     It answers in time; no front is lower than it was last time or in the newest backup; the office writes the file of --db, its
     log is whole, and its next start has the memory that it needs; the disk has room; the newest backup is young, and the program
-    finds it sound; the certificate has days left. What is not named is not looked at. Status 0: all is well, 1: something is to
-    be looked at, 2: something is wrong.
+    finds it sound; the certificate has days left; a standby has all that came. What is not named is not looked at. Status 0: all is
+    well, 1: something is to be looked at, 2: something is wrong.
     """
     password = os.environ.get("SOCIETY_PASSWORD", "")
-    names = ("address", "user", "authority", "database", "disk", "backups", "state", "program", "certificate")
+    names = ("address", "user", "authority", "database", "disk", "backups", "state", "program", "certificate", "standby")
     if given["database"] is not None and given["disk"] is None:
         given["disk"] = given["database"].parent
     looked = health.Looked(password=password, **{it: given[it] for it in names})
-    found = health.look(looked, health.Limits(given["seconds"], given["memory"], given["free"], given["hours"], given["days"]))
+    limits = ("seconds", "memory", "free", "hours", "days", "minutes")
+    found = health.look(looked, health.Limits(*(given[it] for it in limits)))
     if given["form"] == "json":
         say(health.as_json(found))
     elif given["form"] == "metrics":

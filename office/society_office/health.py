@@ -1,4 +1,4 @@
-"""Whether the office is well: answers, fronts, its file, the memory of a start, free disk, a sound backup, days of the certificate."""
+"""Whether the office is well: answers, fronts, its file, memory of a start, free disk, a sound backup, the certificate, a standby."""
 
 import contextlib
 import dataclasses
@@ -15,6 +15,7 @@ import urllib.parse
 from collections.abc import Callable, Iterator
 from typing import Any
 
+from society_office import following
 from society_office.book_files import fault_of_files, log_of, offices, office_words
 from society_office.copy import open_copy
 from society_office.errors import OfficeError
@@ -56,6 +57,7 @@ class Limits:
     disk: float = 10
     backup: float = 30
     certificate: float = 14
+    standby: float = 15
 
 
 @dataclasses.dataclass(frozen=True)
@@ -72,6 +74,7 @@ class Looked:
     state: pathlib.Path | None = None
     program: str | None = None
     certificate: str | None = None
+    standby: pathlib.Path | None = None
 
 
 def newest(folder: pathlib.Path) -> pathlib.Path:
@@ -233,6 +236,14 @@ def look_at_certificate(it: Looked, limits: Limits) -> Finding:
     return Finding("certificate", judged(days, limits.certificate, False), f"the certificate ends in {days:.0f} days", days, "days")
 
 
+def look_at_standby(it: Looked, limits: Limits) -> Finding:
+    """For how long a standby has not been known to have all, by what `resend --state` keeps."""
+    assert it.standby is not None
+    found = following.kept(it.standby)
+    state = WRONG if found.refused else judged(found.minutes, limits.standby, True)
+    return Finding("standby", state, found.words, found.minutes, "minutes")
+
+
 def kept_state(it: Looked) -> dict[str, Any]:
     """What was kept last time: the fronts, and what was said of the newest backup."""
     if it.state is None or not it.state.exists():
@@ -295,6 +306,8 @@ def look(it: Looked, limits: Limits) -> list[Finding]:
         found += tried("sound", lambda: [look_into_backup(it, state["sound"])])
     if it.certificate is not None:
         found += tried("certificate", lambda: [look_at_certificate(it, limits)])
+    if it.standby is not None:
+        found += tried("standby", lambda: [look_at_standby(it, limits)])
     keep(it, state)
     return found
 

@@ -54,6 +54,10 @@ class Tally:
         sent = self.new + self.known + count
         there = f"; {self.there:,} not sent, since it has them" if self.there else ""
         yield f"{sent:,} sent: {self.new:,} new, {self.known:,} known, {count:,} refused{there}"
+        yield from self.causes()
+
+    def causes(self) -> Iterator[str]:
+        """A line for each cause of a refusal."""
         for cause, paths in self.refused.items():
             more = f" and {len(paths) - MOST_NAMED:,} more" if len(paths) > MOST_NAMED else ""
             yield f"refused, {cause}: {', '.join(paths[:MOST_NAMED])}{more}"

@@ -6,14 +6,15 @@ from typing import Any
 
 import click
 
-from society_office import rebuilding
+from society_office import following, rebuilding
 from society_office.asking import Connections, access_by_netrc
 from society_office.command_words import COPY_HELP, PATH, PROGRAM_HELP, WRONG, noted
 from society_office.comparing import Difference, compare, summary
 from society_office.comparing_answers import ALL_WORKS, compare_answers
-from society_office.copy import open_copy
+from society_office.copy import Copy, open_copy
+from society_office.errors import OfficeError
 from society_office.program import find_program, open_whole, trial_of
-from society_office.resending import how_many, resend
+from society_office.resending import Tally, how_many, resend
 from society_office.terminal import counting, doing, say
 
 ACCESS = (
@@ -85,24 +86,44 @@ def tell_differs(copy: pathlib.Path, other: str, works: int, **access: Any) -> N
 @click.argument("copy", type=PATH)
 @click.option("--to", "address", required=True, metavar="URL", help="The office that gets it, as http://127.0.0.1:8080.")
 @click.option("--since-fronts", is_flag=True, help="Sends only files above its fronts, and returns that none of its pools has paid.")
+@click.option("--state", type=PATH, metavar="FILE", help="Keeps there until when it has all, and what came since, for `health --standby`.")
+@click.option("--behind", default=15.0, show_default=True, metavar="MINUTES", help="With --state: status 1 where it is behind for longer.")
 @with_access
-def send_again(copy: pathlib.Path, address: str, since_fronts: bool, **access: Any) -> None:
+def send_again(copy: pathlib.Path, address: str, since_fronts: bool, state: pathlib.Path | None, behind: float, **access: Any) -> None:
     """Sends all that a copy has of what was sent to another office: ends, files, returns, orders.
 
     What it has already changes nothing, so where it was broken off run it again. It tells how much was new to the other office, how much
-    it knew, and what it refused and why; then the status is 1.
+    it knew, and what it refused and why; then the status is 1. With --state a standby that does not answer is told, and the status is 1
+    only where it has been behind for longer than --behind.
     """
+    follower = following.begun(state, address) if state else None
     with open_copy(copy) as opened:
-        office = connected(address, **access)
         try:
-            with counting("sent", how_many(noted(opened))) as tell:
-                found = resend(opened, office, since_fronts, tell)
-        finally:
-            office.close()
-    for line in found.lines():
-        say(line)
-    if found.refused:
-        sys.exit(WRONG)
+            found = sent_to(noted(opened), address, since_fronts, access)
+        except OfficeError as error:
+            if follower is None or state is None:
+                raise
+            say(f"society-office: {error}", error=True)
+            follower.fell_behind(opened)
+        else:
+            for line in found.lines():
+                say(line)
+            if follower is None or state is None:
+                sys.exit(WRONG if found.refused else 0)
+            follower.caught_up(opened, found)
+    follower.keep(state)
+    say(follower.words)
+    sys.exit(WRONG if follower.refused or follower.minutes > behind else 0)
+
+
+def sent_to(copy: Copy, address: str, since_fronts: bool, access: dict[str, Any]) -> Tally:
+    """What became of what was sent to the office at an address."""
+    office = connected(address, **access)
+    try:
+        with counting("sent", how_many(copy)) as tell:
+            return resend(copy, office, since_fronts, tell)
+    finally:
+        office.close()
 
 
 @click.command(epilog=COPY_HELP, short_help="Whether a book follows from what was sent.")

@@ -30,9 +30,9 @@ FIRST = quarter.OFFICE.files[0]
 
 
 @contextlib.contextmanager
-def standing(program: str, database: pathlib.Path) -> Iterator[str]:
+def standing(program: str, database: pathlib.Path, port: int = 0) -> Iterator[str]:
     """The address of an office over a file, which goes on until the `with` ends."""
-    port = free_port()
+    port = port or free_port()
     with running(program, database, port, "--connections", "1000"):
         yield f"http://127.0.0.1:{port}"
 

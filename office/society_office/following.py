@@ -1,0 +1,98 @@
+"""How far a standby is behind: the time up to which it has all that the office has, and what has come since."""
+
+import dataclasses
+import json
+import pathlib
+import time
+from typing import Any
+
+from society_office.copy import Copy
+from society_office.errors import OfficeError
+from society_office.numbering import as_sent, counted
+from society_office.resending import Tally
+
+MINUTE = 60
+NOTHING: dict[str, Any] = {"fronts": {}, "held": {}, "ends": 0, "returns": 0, "orders": 0}
+
+
+@dataclasses.dataclass
+class Following:
+    """What is kept of a standby between one resending and the next."""
+
+    standby: str
+    # When the copy was made of which it has all; before there is one, when the first was resent.
+    since: float
+    has: dict[str, Any] = dataclasses.field(default_factory=lambda: NOTHING)
+    lacks: str = ""
+    refused: list[str] = dataclasses.field(default_factory=list)
+
+    @property
+    def minutes(self) -> float:
+        """For how long it was not known to have all."""
+        return max(0.0, time.time() - self.since) / MINUTE
+
+    @property
+    def words(self) -> str:
+        """How it is, in a line."""
+        when = f"{time.strftime('%Y-%m-%d %H:%M:%S', time.localtime(self.since))} ({self.minutes:,.0f} minutes ago)"
+        if self.refused:
+            return f"{self.standby} is not the same any more: {'; '.join(self.refused)}"
+        if self.lacks:
+            return f"{self.standby} is known to have all until {when}. What has come since: {self.lacks}"
+        return f"{self.standby} has all that came until {when}"
+
+    def caught_up(self, copy: Copy, tally: Tally) -> None:
+        """All of a copy was sent to it."""
+        self.lacks, self.refused = "", list(tally.causes())
+        if not self.refused:
+            self.since, self.has = copy.taken, held_by(copy)
+
+    def fell_behind(self, copy: Copy) -> None:
+        """Not all of a copy could be sent to it."""
+        self.lacks = come_since(self.has, held_by(copy)) or "nothing"
+
+    def keep(self, path: pathlib.Path) -> None:
+        """Keeps it for next time."""
+        draft = path.with_name(f".{path.name}.new")
+        draft.write_text(json.dumps(dataclasses.asdict(self)))
+        draft.replace(path)
+
+
+def kept(path: pathlib.Path) -> Following:
+    """What was kept; an OfficeError where there is nothing, or something else."""
+    try:
+        return Following(**json.loads(path.read_text()))
+    except (OSError, ValueError, TypeError) as error:
+        raise OfficeError(f"{path} is not what `resend --state` keeps: {error}") from error
+
+
+def begun(path: pathlib.Path, standby: str) -> Following:
+    """What was kept of a standby; a new one where that was another's, or there is nothing."""
+    if path.exists() and (found := kept(path)).standby == standby:
+        return found
+    return Following(standby, time.time())
+
+
+def held_by(copy: Copy) -> dict[str, Any]:
+    """How much a copy has of each kind: fronts, held numbers, ends, returns, orders."""
+    copy.need_derived()
+    lines = copy.lines()
+    counts = {"returns": "returns", "orders": "pools", **({"ends": "segment_ends"} if copy.layout >= 3 else {})}
+    return {
+        **NOTHING,
+        "fronts": {it.sender: as_sent(it.front) for it in lines},
+        "held": {it.sender: [as_sent(number) for number in it.waiting + it.skipped] for it in lines},
+        **{kind: copy.row(f"SELECT count(*) FROM {table}")[0] for kind, table in counts.items()},
+    }
+
+
+def come_since(had: dict[str, Any], has: dict[str, Any]) -> str:
+    """What an office has that it had not."""
+    found = []
+    moved = [sender for sender, front in has["fronts"].items() if front != had["fronts"].get(sender, "0")]
+    if moved:
+        first = f"{moved[0]} from {had['fronts'].get(moved[0], '0')} to {has['fronts'][moved[0]]}"
+        found.append(f"fronts of {counted(len(moved), 'sender')} ({first}{' and others' if len(moved) > 1 else ''})")
+    held = sum(len(set(numbers) - set(had["held"].get(sender, []))) for sender, numbers in has["held"].items())
+    counts = {"held number": held, **{kind[:-1]: has[kind] - had[kind] for kind in ("ends", "returns", "orders")}}
+    return ", ".join(found + [counted(count, noun) for noun, count in counts.items() if count > 0])
