@@ -1,6 +1,7 @@
 #!/usr/bin/env python3
-"""Runs `rt ci`, the trials of the built program and the tests of society-office, and passes on what they print. Before its last line, which
-counts all, it tells the processor minutes of each crate and part, and whether release/society is the program that was built.
+"""Runs `rt ci`, the trials of the built program and the tests of society-office, looks what the program calls of the machine and whether
+docs/TOUR.md and CONTRIBUTING.md name what is there, and passes on what all of them print. Before its last line, which counts all, it tells the processor minutes of each crate and part, and
+whether release/society is the program that was built.
 
 A part is what a process of the prover works on: a proof, a crate's tests, its first edit (the seed, a whole proof from nothing), or one of
 the further edits, which go over what the seed kept. Processes are looked at twice a second, so what a process did in its last half second
@@ -8,8 +9,10 @@ counts under 'other', as do rt itself, linking, and the tests and programs that 
 """
 import collections
 import os
+import pathlib
 import re
 import resource
+import shutil
 import signal
 import subprocess
 import sys
@@ -17,6 +20,8 @@ import threading
 import time
 
 sys.path.append(os.path.join(os.path.dirname(os.path.abspath(__file__)), "..", "trials"))
+import calls
+import documents
 import release
 import run as trials
 
@@ -168,8 +173,10 @@ def main():
         return 1
     # A program that was not proved, or is not built, is neither tried nor compared.
     if status == 0:
+        counts = added(counts, calls.checked(pathlib.Path(shutil.which("rt")).resolve().parent.parent))
         counts = added(counts, trials.check(trials.builds()))
         counts = added(counts, tools_checked(release.built_in(release.TOP)))
+        counts = added(counts, documents.check())
         line, is_right = release.compared()
         told, counts = [line], added(counts, (0, int(not is_right)))
     meter.ended.set()

@@ -3,10 +3,12 @@
 
     trials/run.py               the program that bin/society runs; where it would have to be built, release/society as it is
     trials/run.py PROGRAM..     the programs that are named
+    trials/run.py --only WORD   the trials with this word in their names alone
 
 A line tells of each trial that fails; the status is 1 then. The gate runs them over the program as each compiler of `rt ci` built it
 (.ci/run).
 """
+import argparse
 import pathlib
 import subprocess
 import sys
@@ -23,6 +25,7 @@ import files
 import leaving
 import openings
 import pauses
+import readings
 import refused_memory
 import sizes
 import streams
@@ -47,11 +50,12 @@ def failures(tried, trials):
                 yield f"{tried.name}: {it.__name__} FAILED: {why}"
 
 
-def check(programs):
-    """Runs all trials over the first program, over each other one those that are not slow, and gives how many passed and failed."""
+def check(programs, word=""):
+    """Runs all trials with this word in their names over the first program, over each other one those that are not slow, and gives how many
+    passed and failed."""
     passed = failed = 0
     for number, tried in enumerate(programs):
-        trials = [it for it in TRIALS if number == 0 or it not in SLOW]
+        trials = [it for it in TRIALS if word in it.__name__ and (number == 0 or it not in SLOW)]
         lines = list(failures(tried, trials))
         print(*lines, f"{tried.name}: {len(trials) - len(lines)} of {len(trials)} trials as wanted", sep="\n", flush=True)
         passed, failed = passed + len(trials) - len(lines), failed + len(lines)
@@ -59,8 +63,13 @@ def check(programs):
 
 
 def main():
-    named = [pathlib.Path(it).resolve() for it in sys.argv[1:]] or [common.program_at_hand()]
-    return int(check(named)[1] > 0)
+    options = argparse.ArgumentParser(description=__doc__, formatter_class=argparse.RawDescriptionHelpFormatter)
+    options.add_argument("--only", metavar="WORD", default="", help="the trials with this word in their names (default: all)")
+    options.add_argument("programs", metavar="PROGRAM", nargs="*", type=pathlib.Path, help="(default: the program that bin/society runs)")
+    options = options.parse_args()
+    named = [it.resolve() for it in options.programs] or [common.program_at_hand()]
+    passed, failed = check(named, options.only)
+    return int(failed > 0 or not passed)
 
 
 if __name__ == "__main__":
