@@ -4,6 +4,8 @@ The rule: of the program's crates society_host and society alone name the runtim
 the machine, or open a database, is what .ci/calls/NAME lists. No other crate of the program has an `impl Disk` or an `impl Calls`, or calls what
 opens a database. What a crate calls is told by the prover (`rattle check --list-calls`), over the libraries that `rt ci` left.
 """
+import concurrent.futures
+import itertools
 import pathlib
 import re
 import subprocess
@@ -75,19 +77,29 @@ def listed(text):
     return sorted(calls)
 
 
+def calls_of(name, below, kit):
+    """What the prover says of a crate and of what it calls."""
+    words = [kit / "bin/rattle", *words_for(name, below, kit)]
+    ran = subprocess.run(words, cwd=CRATES / name, stdout=subprocess.PIPE, stderr=subprocess.STDOUT, text=True, errors="replace", check=False)
+    return ran.stdout
+
+
+def compared(name, told):
+    """A line for each difference of what a crate calls, by what the prover says, from what is listed."""
+    if "\nlogic=proved" not in told:
+        yield f"calls: {name} is not proved: {told[-600:]}"
+        return
+    there, wanted = listed(told), (LISTS / name).read_text().split("\n")[:-1]
+    yield from (f"calls: {name} calls {it}, which is not on its list" for it in there if it not in wanted)
+    yield from (f"calls: {name} does not call {it}, which is on its list" for it in wanted if it not in there)
+
+
 def checked(kit):
     """How many looks passed, and how many failed; a line is printed of each that fails."""
-    below = crates()
-    wrong = list(others_that_reach(below))
-    passed = int(not wrong)
-    for file in sorted(LISTS.iterdir()):
-        ran = subprocess.run([kit / "bin/rattle", *words_for(file.name, below, kit)], cwd=CRATES / file.name, capture_output=True, text=True, check=False)
-        if "logic=proved" not in ran.stdout:
-            wrong.append(f"calls: {file.name} is not proved: {ran.stdout[-300:]}{ran.stderr[-300:]}")
-            continue
-        there, wanted = listed(ran.stdout), file.read_text().split("\n")[:-1]
-        wrong += [f"calls: {file.name} calls {it}, which is not on its list" for it in there if it not in wanted]
-        wrong += [f"calls: {file.name} does not call {it}, which is on its list" for it in wanted if it not in there]
-        passed += there == wanted
-    print(*wrong, sep="\n", end="\n" if wrong else "", flush=True)
-    return passed, len(wrong)
+    below, names = crates(), sorted(it.name for it in LISTS.iterdir())
+    with concurrent.futures.ThreadPoolExecutor() as both:
+        told = list(both.map(lambda name: calls_of(name, below, kit), names))
+    looks = [list(others_that_reach(below)), *(list(compared(*it)) for it in zip(names, told, strict=True))]
+    for line in itertools.chain(*looks):
+        print(line, flush=True)
+    return looks.count([]), len(looks) - looks.count([])
