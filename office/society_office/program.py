@@ -96,7 +96,7 @@ class Office:
         parts = urllib.parse.urlsplit(address)
         if parts.scheme not in ("http", "https") or not parts.hostname or parts.query or parts.fragment or port_of(parts) is None:
             raise OfficeError(f"{address} is no address of an office: write http://127.0.0.1:8080 or https://office.example:8443")
-        self.address, self.path = address, parts.path.rstrip("/")
+        self.address, self.path, self.is_broken_off = address, parts.path.rstrip("/"), False
         self.headers = {"Authorization": "Basic " + base64.b64encode(f"{user}:{password}".encode()).decode()} if user else {}
         if parts.scheme == "https":
             context = context_by(authority)
@@ -109,6 +109,11 @@ class Office:
     def ask(self, method: str, path: str, body: bytes | None = None) -> Answer:
         """The answer to a request; an OfficeError where none came."""
         try:
+            if self.connection.sock is None:
+                self.connection.connect()
+            # (it may have been broken off before there was a connection to shut)
+            if self.is_broken_off:
+                raise ConnectionAbortedError("broken off")
             self.connection.request(method, self.path + path, body=body, headers=self.headers)
             answer = self.connection.getresponse()
             return Answer(answer.status, answer.read())
@@ -117,7 +122,8 @@ class Office:
             raise OfficeError(f"no answer from {self.address}: {error}") from error
 
     def break_off(self) -> None:
-        """Has the request that another thread waits for end without an answer."""
+        """Has the request that another thread waits for, or is about to send, end without an answer."""
+        self.is_broken_off = True
         if (it := self.connection.sock) is not None:
             with contextlib.suppress(OSError):
                 it.shutdown(socket.SHUT_RDWR)

@@ -16,7 +16,7 @@ import quarter
 import random_office
 from conftest import backed_up, made, put, running, served
 from office_value import End, Office, Pool, Return, Step, rank
-from society_office import comparing, resending
+from society_office import comparing, program, resending
 from society_office.asking import ON_ONE_CONNECTION, Connections, Request, access_by_netrc
 from society_office.copy import open_copy
 from society_office.errors import OfficeError
@@ -308,4 +308,12 @@ def test_one_answer_ends_what_others_wait_for(busy: str) -> None:
     connections, begun = Connections(f"{busy}/slow", 20, 4), time.monotonic()
     with pytest.raises(OfficeError, match="the proxy wants a user and a password"):
         list(connections.answers(Request("return", f"returns/TV5/{k}", b"") for k in (1, 2, 3, 4)))
+    assert time.monotonic() - begun < 15
+
+
+def test_what_is_broken_off_before_it_connects(busy: str) -> None:
+    office, begun = program.Office(f"{busy}/slow"), time.monotonic()
+    office.break_off()
+    with pytest.raises(OfficeError, match="broken off"):
+        office.ask("PUT", "/v1/returns/TV5/2", b"")
     assert time.monotonic() - begun < 15
