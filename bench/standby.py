@@ -40,9 +40,9 @@ TAKEN = {200, 201, 202}
 # What a piece of a connection waits for, the seconds of a halt or of being away, and how late a put may come.
 DELAYS, PAUSE, LATE = [0, 0, 0, 0.01], 0.2, 0.4
 # The most seconds that whoever puts may wait for an answer: a mirror is given five.
-AT_ONCE = 4
-# So many puts over one connection take no more seconds longer than this where the standby hangs: each would wait for one second at least.
-TIMES, LONGER = 30, 15
+AT_ONCE = 2
+# So many puts over one connection while the standby hangs, each within a second.
+TIMES = 30
 OFF = '        default "";\n        8444 "";\n'
 WRONG = []
 
@@ -314,11 +314,9 @@ def hangs(machines):
     """A standby that hangs is noticed by nobody: not on a kept connection, and by no limit."""
     with served(machines):
         user, path = User(machines.proxies[0], SENDERS[0]), f"/senders/{SENDERS[0]}/transmissions"
-        before = [user.put(f"{path}/{k}", common.NO_WORKS) for k in range(1, TIMES + 1)]
         machines.standby.server.process.send_signal(signal.SIGSTOP)
-        found = [user.put(f"{path}/{TIMES + k}", common.NO_WORKS) for k in range(1, TIMES + 1)]
-        took, would = (sum(seconds for _, seconds in it) for it in (found, before))
-        return {status for status, _ in before + found} == {201} and took < would + LONGER
+        found = [user.put(f"{path}/{k}", common.NO_WORKS) for k in range(1, TIMES + 1)]
+        return {status for status, _ in found} == {201} and max(seconds for _, seconds in found) < 1
 
 
 def brings(machines):
