@@ -110,7 +110,7 @@ half_each : map (weights_of Performing (codes "PB000000012") office) (transactio
 unfolding field fill_field is_blank line_of_piece decimal_value record_of indicator_of share_of territory_of transmission_in has_type is_read type_of_group fault_of weights_of is_check_digit weighted_sum has_isrc_form isrc_of has_iswc_form has_right_check_digit iswc_of trimmed
 half_each = refl
 
--- of the mechanical right of F1 its publisher has all
+-- of the mechanical right of this registration its publisher has all
 publisher_alone : map (weights_of Mechanical (codes "PB000000012") office) (transactions_of (transmission_in (codes "HDRPB000000012EXAMPLE MUSIC                                01.102026010510150020260106\r\nGRHNWR0000102.200000000000\r\nNWR0000000000000000FIRST SONG                                                    W1            T0345246801\r\nSPU000000000000000101P1       EXAMPLE MUSIC                                 E          00000000199                 05000   10000   10000\r\nSPT0000000000000002P1             050001000010000I2136 001\r\nSWR0000000000000003A1       WRITER                                       ANNA                           CA         00000000295   05000   00000   00000\r\nSWT0000000000000004A1       050000000000000I2136 001\r\nPWR0000000000000005P1       EXAMPLE MUSIC                                                            A1\r\nREC0000000000000006                                                                                                                                                                                                                                      ATABC2600001\r\nGRT000010000000100000009\r\nTRL000010000000100000011\r\n"))) ≡ weights 10000 0 0
 unfolding field fill_field is_blank line_of_piece decimal_value record_of indicator_of share_of territory_of transmission_in has_type is_read type_of_group fault_of weights_of is_check_digit weighted_sum has_isrc_form isrc_of has_iswc_form has_right_check_digit iswc_of trimmed
 publisher_alone = refl
