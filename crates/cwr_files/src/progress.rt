@@ -6,7 +6,7 @@ ghost use Rattle.cwr_files.specs.ReadTo.{IsReadTo, IsPending, HasReadLines};
 
 use crate::counts::{Counts, step};
 use crate::fault::FileFault;
-use crate::line_faults::is_too_large;
+use crate::line_faults::{TOO_LARGE, is_too_large};
 use cwr_records::{line_of, whole_piece};
 use work_ids::SenderKey;
 
@@ -83,7 +83,7 @@ pub fn read_on(
     match read_lines(sender, body, from, searched) {
         Ok(at) => {
             if is_too_large(body.len(), &line_of(&body[at.start..])) {
-                return Err(at_next_line(12, &at));
+                return Err(at_next_line(TOO_LARGE, &at));
             }
             Ok(at)
         }

@@ -18,13 +18,13 @@ abbrev pub number_cmp : List ℕ → List ℕ → Ordering
 number_cmp v w = slice_cmp nat_cmp v w
 
 -- a place in the entry of a work, where there is an entry and it has a place
-abbrev pub place_in : Option (Option ℕ) → Option ℕ
-place_in None = None
-place_in (Some place) = place
+abbrev pub place_kept : Option (Option ℕ) → Option ℕ
+place_kept None = None
+place_kept (Some place) = place
 
 -- the place of the last version that is kept of a work
 abbrev pub kept_index : Works → List ℕ → Option ℕ
-kept_index works work = place_in (tree.get number_cmp works.last work)
+kept_index works work = place_kept (tree.get number_cmp works.last work)
 
 -- the work of a transaction has an entry, where it is clean
 abbrev pub HasEntry : Works → Judged → Type 0

@@ -51,11 +51,19 @@ abbrev pub ordinal_of : List ℕ → List Judged → ℕ
 ordinal_of work [] = 0
 ordinal_of work (transaction ∷ past) = if is_registered work past then ordinal_of work past else works_in (transaction ∷ past)
 
+-- 20: a registration of a work that is registered (profile)
+abbrev pub registered_before : ℕ
+registered_before = 20
+
+-- 21: a revision of a work that is not registered (profile)
+abbrev pub unregistered : ℕ
+unregistered = 21
+
 -- the verdict of a transaction behind those before it: its fault; 20 for a work that is registered, 21 for one that is not; else the work's ordinal and the next revision (profile)
 abbrev pub verdict_of : List Judged → Judged → Verdict
 verdict_of past (Faulty fault) = Rejected fault
-verdict_of past (Clean Nwr number) = if is_registered number past then Rejected 20 else Accepted (works_in past + 1) 0
-verdict_of past (Clean Rev number) = if is_registered number past then Accepted (ordinal_of number past) (versions_of number past) else Rejected 21
+verdict_of past (Clean Nwr number) = if is_registered number past then Rejected registered_before else Accepted (works_in past + 1) 0
+verdict_of past (Clean Rev number) = if is_registered number past then Accepted (ordinal_of number past) (versions_of number past) else Rejected unregistered
 
 -- the verdicts of transactions in order, behind those before them
 abbrev pub verdicts_from : List Judged → List Judged → List Verdict

@@ -1,7 +1,7 @@
 -- The versions of works: the accepted transactions of a line, each where it stands.
 use Rattle.std.specs.Prelude.{ℕ, ◌+◌, Bool, ◌&&◌, List, [], ◌∷◌, Option, Some, None, map, if◌then◌else◌}
 use Rattle.works_core.specs.Numbered.{JudgedTransmission, up_to}
-use Rattle.works_core.specs.Verdicts.{concerns, is_accepted, ordinal_of, versions_of}
+use Rattle.works_core.specs.Verdicts.{concerns, is_accepted, ordinal_of, registered_before, unregistered, versions_of}
 use Rattle.cwr_records.specs.declared.work.TransactionKind.TheVariants.{Nwr, Rev}
 use Rattle.works_core.specs.declared.judged.Judged.{Judged}
 use Rattle.works_core.specs.declared.judged.Judged.TheVariants.{Clean, Faulty}
@@ -59,8 +59,8 @@ last_version work (t ∷ past) = if is_version work past t then Some (version_of
 abbrev pub next_verdict : Judged → Option WorkVersion → ℕ → Verdict
 next_verdict (Faulty fault) last works = Rejected fault
 next_verdict (Clean Nwr number) None works = Accepted (works + 1) 0
-next_verdict (Clean Nwr number) (Some version) works = Rejected 20
-next_verdict (Clean Rev number) None works = Rejected 21
+next_verdict (Clean Nwr number) (Some version) works = Rejected registered_before
+next_verdict (Clean Rev number) None works = Rejected unregistered
 next_verdict (Clean Rev number) (Some version) works = Accepted version.ordinal (version.revision + 1)
 
 -- the version of a work at a cut: its last accepted transaction in the transmissions up to the cut; a cut above the last number is read as the last number (profile)

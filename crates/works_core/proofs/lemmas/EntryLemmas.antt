@@ -6,7 +6,7 @@ use Rattle.std.specs.BTreeMap as tree
 use Rattle.std.specs.BTreeMap.{BTreeMap}
 use Rattle.std.specs.Str.{bytes_eq}
 use Rattle.works_core.proofs.lemmas.TrackLemmas.{same_bytes}
-use Rattle.works_core.specs.Tracks.{KeepsEntries, KeepsWorks, number_cmp, place_in}
+use Rattle.works_core.specs.Tracks.{KeepsEntries, KeepsWorks, number_cmp, place_kept}
 use Rattle.works_core.specs.declared.judged.Judged.TheVariants.{Clean, Faulty}
 use Rattle.works_core.specs.declared.works.Works.{Works}
 
@@ -15,7 +15,7 @@ pub changed : {X : Type 0} (n : List ℕ) (old new : BTreeMap (List ℕ) X) (w :
 changed n old new w updates q = updates.0 q ∙ ap (λ (b : Bool). cond b w (tree.get number_cmp old q)) (is_eq-slice_cmp n q)
 
 -- the place in an entry that is chosen
-pub place_chosen : (b : Bool) (place : Option ℕ) (other : Option (Option ℕ)) → place_in (cond b (Some place) other) ≡ cond b place (place_in other)
+pub place_chosen : (b : Bool) (place : Option ℕ) (other : Option (Option ℕ)) → place_kept (cond b (Some place) other) ≡ cond b place (place_kept other)
 place_chosen true place other = refl
 place_chosen false place other = refl
 
@@ -38,13 +38,13 @@ none_of (Some x) e = absurd (false≢true (sym e))
 pub entered : (old new : Works) (n : List ℕ) → tree.UpdatesBy number_cmp (number_cmp n) old.last new.last (Some None) → tree.get number_cmp old.last n ≡ None → new.versions ≡ old.versions → new.count ≡ old.count → KeepsWorks old new
 entered old new n updates none versions count = record {
   entries = keeps_entries old new n None updates;
-  last = λ q. ap place_in (changed n old.last new.last (Some None) updates q) ∙ place_chosen (bytes_eq n q) None (tree.get number_cmp old.last q) ∙ by_case (bytes_eq n q) q refl;
+  last = λ q. ap place_kept (changed n old.last new.last (Some None) updates q) ∙ place_chosen (bytes_eq n q) None (tree.get number_cmp old.last q) ∙ by_case (bytes_eq n q) q refl;
   versions = versions;
   count = count;
 }
   where
-    by_case : (b : Bool) (q : List ℕ) → bytes_eq n q ≡ b → cond b None (place_in (tree.get number_cmp old.last q)) ≡ place_in (tree.get number_cmp old.last q)
-    by_case true q same = sym (ap (λ (z : List ℕ). place_in (tree.get number_cmp old.last z)) (sym (same_bytes n q same)) ∙ ap place_in none)
+    by_case : (b : Bool) (q : List ℕ) → bytes_eq n q ≡ b → cond b None (place_kept (tree.get number_cmp old.last q)) ≡ place_kept (tree.get number_cmp old.last q)
+    by_case true q same = sym (ap (λ (z : List ℕ). place_kept (tree.get number_cmp old.last z)) (sym (same_bytes n q same)) ∙ ap place_kept none)
     by_case false q same = refl
 
 -- the same works are kept by one step, and by the next
