@@ -134,6 +134,7 @@ HEADS = [
     ("version 0.9", b"GET /\r\n\r\n", "400", REFUSED),
     ("version 2.0", head(line="GET / HTTP/2.0"), "400", REFUSED),
     ("another method", head(line=f"POST {KEY} HTTP/1.1"), "400", REFUSED),
+    ("HEAD of what is there, and nothing is read after it", head(line=f"HEAD {KEY} HTTP/1.1") + SENDER, "400", REFUSED),
     ("a method in small letters", head(line=f"get {KEY} HTTP/1.1"), "400", REFUSED),
     ("no Host is asked for, Expect is passed over", head("Expect: 100-continue"), "200", EMPTY),
     ("zeros before a length", head("Content-Length: " + "0" * 40), "200", EMPTY),
@@ -155,7 +156,8 @@ HEADS = [
     ("an unknown path once the body is whole", head("Content-Length: 3", line="PUT /x HTTP/1.1") + b"abc" + SENDER, "404 200", EMPTY),
     ("a body cut short before the path", head("Content-Length: 3", line="PUT /x HTTP/1.1") + b"ab", "400", REFUSED),
     ("close in any case, in any Connection field; nothing is read after it", head("Connection: x", "Connection: CLOSE") + b"x", "200", EMPTY),
-    ("close among others keeps it", head("Connection: close, x") + SENDER, "200 200", EMPTY),
+    ("close among others ends it", head("Connection: keep-alive ,\tClose,") + b"x", "200", EMPTY),
+    ("a longer word keeps it", head("Connection: closed, x-close, clos") + SENDER, "200 200", EMPTY),
     ("version 1.0 ends it, also with keep-alive", head("Connection: keep-alive", line=f"GET {KEY} HTTP/1.0") + SENDER, "200", EMPTY),
 ]
 

@@ -1,5 +1,5 @@
 //! What the fields of a head say of its body and of the connection.
-ghost use Rattle.std.specs.Prelude.{◌≡◌, ◌==◌, ◌∷◌, [], length, map, All};
+ghost use Rattle.std.specs.Prelude.{◌≡◌, ◌∷◌, [], length, map, All};
 ghost use Rattle.std.specs.Str.{str_eq_ignore_ascii_case};
 ghost use Rattle.httparse.specs.Spans.{IsHeaderWithin, header_bytes};
 ghost use Rattle.http_desk.specs.Fields.{FindsValues};
@@ -7,6 +7,7 @@ ghost use Rattle.http_text.specs.BodyLength.{is_field_named, field_values, body_
 
 use cwr_files::MAX_BODY;
 use http_text::BodyLength;
+use http1::fields::KnownFields;
 use httparse::spans::HeaderSpan;
 use work_ids::{is_number, number_up_to};
 
@@ -53,12 +54,13 @@ pub(crate) fn lone_value<'b>(bytes: &'b [u8], headers: &[HeaderSpan], name: &[u8
     }
 }
 
-// Whether a field says that the connection ends.
-fn is_closing(bytes: &[u8], header: &HeaderSpan) -> bool
-    requires { IsHeaderWithin (length bytes.now) header.now }
-    ensures { result ≡ says_close (header_bytes bytes.now header.now) }
+// Whether a Connection field lists `close`.
+#[tactic(auto, unfolding(http1::specs::Fields::known_fields))]
+fn says_close(bytes: &[u8], headers: &[HeaderSpan]) -> bool
+    requires { All (IsHeaderWithin (length bytes.now)) headers.now }
+    ensures { result ≡ says_close (map (header_bytes bytes.now) headers.now) }
 {
-    has_name(bytes, header, b"connection") && is_same_word(header.value.of(bytes), b"close")
+    KnownFields::from_spans(bytes, headers).close
 }
 
 /// Whether the connection ends after the answer.
@@ -66,15 +68,7 @@ pub(crate) fn closes(bytes: &[u8], headers: &[HeaderSpan], minor: u8) -> bool
     requires { All (IsHeaderWithin (length bytes.now)) headers.now }
     ensures { result ≡ ends_connection minor (map (header_bytes bytes.now) headers.now) }
 {
-    if minor == 0 {
-        return true;
-    }
-    for header in headers {
-        if is_closing(bytes, header) {
-            return true;
-        }
-    }
-    false
+    minor == 0 || says_close(bytes, headers)
 }
 
 // How long the body is, by the value of a Content-Length field.

@@ -1,6 +1,9 @@
 -- Worked values: how long the bodies after heads are, what paths ask for, and answers byte for byte.
 use Rattle.std.specs.Prelude.{◌≡◌, ℕ, true, false, List, [], ◌∷◌, Option, Some, None, refl, codes}
 use Rattle.std.specs.Fmt.{digits}
+use Rattle.http1.specs.Fields.{elements}
+use Rattle.http1.specs.Text.{eq_ignore_case}
+use Rattle.httparse.specs.Grammar.{trim_ows}
 use Rattle.percent_encoding.specs.Percent.{percent_decode}
 use Rattle.work_ids.specs.Digits.{decimal_value, last_digits}
 use Rattle.work_ids.specs.FileNames.{is_file_name, is_name_end, number_in_name}
@@ -69,12 +72,19 @@ an_empty_encoding = refl
 -- ---- the end of the connection
 
 closed_in_any_case : ends_connection 1 (only (codes "Connection") (codes "CLOSE")) ≡ true
+unfolding elements eq_ignore_case trim_ows
 closed_in_any_case = refl
 
-closed_among_others : ends_connection 1 (only (codes "Connection") (codes "close, x")) ≡ false
+closed_among_others : ends_connection 1 (only (codes "Connection") (codes "keep-alive ,\tClose,")) ≡ true
+unfolding elements eq_ignore_case trim_ows
 closed_among_others = refl
 
+kept_by_longer_words : ends_connection 1 (only (codes "Connection") (codes "closed, x-close")) ≡ false
+unfolding elements eq_ignore_case trim_ows
+kept_by_longer_words = refl
+
 closed_by_the_second : ends_connection 1 ((codes "connection", codes "keep-alive") ∷ only (codes "connection") (codes "close")) ≡ true
+unfolding elements eq_ignore_case trim_ows
 closed_by_the_second = refl
 
 version_one_zero : ends_connection 0 (only (codes "Connection") (codes "keep-alive")) ≡ true

@@ -1,8 +1,8 @@
 -- What the fields of a head say of the body after it and of the connection (RFC 9110 and 9112, as far as the profile takes them).
 use Rattle.std.specs.Prelude.{ℕ, Bool, List, [], ◌∷◌, ◌==◌, ◌&&◌, ◌||◌, nat_le, nat_lt, length, map, filter, codes, if◌then◌else◌, bytes_eq}
-use Rattle.std.specs.List.{list_any}
 use Rattle.std.specs.Str.{str_eq_ignore_ascii_case}
 use Rattle.std.specs.Str.Parse.{digits_value}
+use Rattle.http1.specs.Fields.{elements_named, has_option}
 use Rattle.httparse.specs.Grammar.{RequestHead}
 use Rattle.httparse.specs.Spans.{name_and_value}
 use Rattle.cwr_files.specs.Sizes.{max_body}
@@ -47,17 +47,13 @@ body_length_of method fields =
 abbrev pub body_length : RequestHead → BodyLength
 body_length head = body_length_of head.method (map name_and_value head.fields)
 
--- the value is close, in any case (RFC 9112, section 9.6)
-abbrev pub is_close : List ℕ → Bool
-is_close value = str_eq_ignore_ascii_case value (codes "close")
-
--- a Connection field with the value close
-abbrev pub says_close : List ℕ × List ℕ → Bool
-says_close field = is_field_named (codes "connection") field && is_close field.1
+-- a Connection field lists close, in any case (RFC 9110, section 7.6.1; RFC 9112, section 9.6)
+abbrev pub says_close : List (List ℕ × List ℕ) → Bool
+says_close fields = has_option (codes "close") (elements_named (codes "connection") fields)
 
 -- version 1.0, or such a field, ends the connection after the answer (RFC 9112, section 9.3; profile)
 abbrev pub ends_connection : ℕ → List (List ℕ × List ℕ) → Bool
-ends_connection minor fields = minor == 0 || list_any says_close fields
+ends_connection minor fields = minor == 0 || says_close fields
 
 -- the connection ends after the answer to a head
 abbrev pub closes : RequestHead → Bool
