@@ -1,5 +1,5 @@
 -- What connections come to that are served one after another, and the lines that are printed of them.
-use Rattle.std.specs.Prelude.{◌≡◌, ◌⊎◌, ℕ, ◌+◌, ◌<◌, true, IfErr, IfOk, List, OnOk, [], ◌∷◌, ◌++◌, Option, Result, Ok, Err, codes, decimal, length}
+use Rattle.std.specs.Prelude.{◌≡◌, ◌⊎◌, ℕ, ◌+◌, ◌<◌, Bool, true, IfErr, IfOk, List, OnOk, [], ◌∷◌, ◌++◌, Option, Result, Ok, Err, codes, decimal, length}
 use Rattle.std.specs.Io.KnownBytes.{Appends}
 use Rattle.std.specs.List.{flat_map, AllByRecursion}
 use Rattle.http_desk.specs.Counted.{failures_of, inner_of}
@@ -10,7 +10,7 @@ use Rattle.http_desk.specs.declared.fault.DeskFault.{DeskFault}
 use Rattle.http_text.specs.Part.{Part}
 use Rattle.society_core.specs.Requests.{Reply}
 use Rattle.society_core.specs.State.{Rises, State}
-use Rattle.desk_connections.specs.Doors.{AreNumbered, Connection, HasAdmitted, Ways}
+use Rattle.desk_connections.specs.Doors.{ComeInOrder, Connection, HasAdmitted, Ways}
 use Rattle.desk_connections.specs.Faults.{fault_text, most_turns}
 
 -- how many requests a connection brought, by what it came to
@@ -88,18 +88,22 @@ Prints contents out new_out bytes =
     Rises (failures_of out) (failures_of new_out)
     ⊎ ((failures_of new_out ≡ failures_of out) × Appends (contents (inner_of out)) (contents (inner_of new_out)) bytes)
 
--- so many connections, those that came in one after another, were served in turn: their requests were answered in turn, and a line was
--- printed for each
-pub record ServesConnections {D R V S W : Type 0} (ways : Ways D R V) (state : S → State) (desk new_desk : S) (contents : W → Option (List ℕ)) (out new_out : Counted W) (count : ℕ) : Type 0 where
+-- so many connections, those that came in one after another behind those that had come in by a door, were served in turn: their requests
+-- were answered in turn, and a line was printed for each
+pub record ServesConnections {D R V S W : Type 0} (ways : Ways D R V) (state : S → State) (desk new_desk : S) (contents : W → Option (List ℕ)) (out new_out : Counted W) (door : D) (count : ℕ) : Type 0 where
   pub connections : List (Connection R V)
   pub number : length connections ≡ count
-  pub numbered : AreNumbered ways 1 connections
+  pub numbered : ComeInOrder ways (ways.doors.accepted door + 1) connections
   pub each : ServesEach ways state connections desk new_desk
   pub counted : AllByRecursion IsCounted connections
   pub answers : AreAnswered state (parts_brought connections) (replies_given connections) desk new_desk
   pub printed : Prints contents out new_out (connection_lines 1 connections)
 
+-- so many more came in by a door, and this is whether one could not be accepted there
+abbrev pub AdmitsMore : {D R V : Type 0} → Ways D R V → D → D → ℕ → Bool → Type 0
+AdmitsMore ways door new_door count failed = HasAdmitted ways new_door (ways.doors.accepted door + count) failed
+
 -- fewer connections than were asked for were served, since one could not be accepted at the door
-abbrev pub StopsEarly : {D R V S W : Type 0} → Ways D R V → (S → State) → S → S → (W → Option (List ℕ)) → Counted W → Counted W → D → ℕ → Type 0
-StopsEarly ways state desk new_desk contents out new_out door connections =
-    (count : ℕ) × (count < connections) × ServesConnections ways state desk new_desk contents out new_out count × HasAdmitted ways door count true
+abbrev pub StopsEarly : {D R V S W : Type 0} → Ways D R V → (S → State) → S → S → (W → Option (List ℕ)) → Counted W → Counted W → D → D → ℕ → Type 0
+StopsEarly ways state desk new_desk contents out new_out door new_door connections =
+    (count : ℕ) × (count < connections) × ServesConnections ways state desk new_desk contents out new_out door count × AdmitsMore ways door new_door count true

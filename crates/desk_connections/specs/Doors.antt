@@ -56,7 +56,7 @@ pub record Connection (R V : Type 0) : Type 0 where
   pub outcome : Result Served DeskFault
 
 -- they are the connections that came in one after another, from this number on
-abbrev pub AreNumbered : {D R V : Type 0} → Ways D R V → ℕ → List (Connection R V) → Type 0
-AreNumbered ways number [] = ⊤
-AreNumbered ways number (c ∷ connections) =
-    (ways.doors.sent_by c.sent ≡ number) × (ways.doors.given_to c.given ≡ number) × AreNumbered ways (number + 1) connections
+abbrev pub ComeInOrder : {D R V : Type 0} → Ways D R V → ℕ → List (Connection R V) → Type 0
+ComeInOrder ways number [] = ⊤
+ComeInOrder ways number (c ∷ connections) =
+    (ways.doors.sent_by c.sent ≡ number) × (ways.doors.given_to c.given ≡ number) × ComeInOrder ways (number + 1) connections

@@ -1,7 +1,7 @@
 //! Connections are served one after another, and a line is printed for each.
-ghost use Rattle.std.specs.Prelude.{◌≡◌, ◌<◌, ◌+◌, ◌^◌, false, true, IfOk, OnOk, OnErr};
-ghost use Rattle.desk_connections.specs.Connections.{Prints, ServesConnections, ServesNext, StopsEarly, connection_line, outcome_text};
-ghost use Rattle.desk_connections.specs.Doors.{HasAdmitted, ways_by};
+ghost use Rattle.std.specs.Prelude.{◌≡◌, true, IfOk, OnOk, OnErr};
+ghost use Rattle.desk_connections.specs.Connections.{AdmitsMore, Prints, ServesConnections, ServesNext, StopsEarly, connection_line, outcome_text};
+ghost use Rattle.desk_connections.specs.Doors.{ways_by};
 
 use crate::door::{AcceptFault, Door};
 use crate::faults::{TURNS, print_fault};
@@ -11,9 +11,9 @@ use society_core::{Desk, Store};
 use std::alloc::Global;
 use std::io::Write;
 
-/// Serves so many connections at the desk, one after another as they come in by a door where nobody came in yet, and prints for each a line
-/// that says how many requests it brought and how it ended. A connection that breaks off does not end it; it ends early at the first that
-/// cannot be accepted. The book is then that of a run of all requests that came.
+/// Serves so many connections at the desk, one after another as they come in by a door, and prints for each a line that says how many
+/// requests it brought and how it ended. A connection that breaks off does not end it; it ends early at the first that cannot be accepted.
+/// The book is then that of a run of all requests that came.
 pub fn serve_connections<D: Door, S: Store, W: Write>(
     alloc: Global,
     desk: &mut Desk<S>,
@@ -21,12 +21,12 @@ pub fn serve_connections<D: Door, S: Store, W: Write>(
     connections: u32,
     out: &mut Counted<W>,
 ) -> Result<(), AcceptFault>
-    requires { HasAdmitted (ways_by D.Door D.Sent.Read.remaining D.Given.Write.contents) door.old 0 false }
     ensures served { OnOk result (ServesConnections (ways_by D.Door D.Sent.Read.remaining D.Given.Write.contents)
-        S.state desk.old desk.new W.contents out.old out.new connections) }
-    ensures admitted { OnOk result (HasAdmitted (ways_by D.Door D.Sent.Read.remaining D.Given.Write.contents) door.new connections false) }
+        S.state desk.old desk.new W.contents out.old out.new door.old connections) }
+    ensures admitted { OnOk result (AdmitsMore (ways_by D.Door D.Sent.Read.remaining D.Given.Write.contents)
+        door.old door.new connections (D.Door.has_failed door.old)) }
     ensures err { OnErr result (StopsEarly (ways_by D.Door D.Sent.Read.remaining D.Given.Write.contents)
-        S.state desk.old desk.new W.contents out.old out.new door.new connections) }
+        S.state desk.old desk.new W.contents out.old out.new door.old door.new connections) }
 {
     for number in 0..connections {
         let Ok(outcome) = serve_next(alloc, desk, door) else {
@@ -43,7 +43,6 @@ fn serve_next<D: Door, S: Store>(
     desk: &mut Desk<S>,
     door: &mut D,
 ) -> Result<Result<Served, DeskFault>, AcceptFault>
-    requires { D.Door.accepted door.old < 2 ^ 32 }
     ensures served { IfOk result (ServesNext (ways_by D.Door D.Sent.Read.remaining D.Given.Write.contents) S.state desk.old desk.new door.old door.new) }
     ensures err { OnErr result ((desk.new ≡ desk.old) × (D.Door.accepted door.new ≡ D.Door.accepted door.old) × (D.Door.has_failed door.new ≡ true)) }
 {

@@ -1,5 +1,5 @@
 //! Where connections come in.
-ghost use Rattle.std.specs.Prelude.{◌≡◌, ◌<◌, ◌+◌, ◌^◌, Bool, IfOk, OnErr, OnOk, ℕ, false, true, zero};
+ghost use Rattle.std.specs.Prelude.{◌≡◌, ◌+◌, Bool, IfOk, OnErr, OnOk, ℕ, false, true, zero};
 ghost use Rattle.std.specs.declared.net.socket_addr.SocketAddrV4.{SocketAddrV4 as Address};
 
 use std::io::{self, Read, Write};
@@ -32,9 +32,9 @@ pub trait Door {
     /// The number of the connection to whose peer this goes.
     ghost given_to: { Self.Given → ℕ };
 
-    /// The two ways of the next connection. `AcceptFault` where none could be accepted, however often it was tried.
+    /// The two ways of the next connection. `AcceptFault` where none could be accepted, however often it was tried, or no more can be
+    /// counted.
     fn accept(&mut self) -> Result<(Self::Sent, Self::Given), AcceptFault>
-        requires { accepted self.old < 2 ^ 32 }
         ensures accepted { OnOk result (accepted self.new ≡ accepted self.old + 1) }
         ensures kept { OnOk result (has_failed self.new ≡ has_failed self.old) }
         ensures numbered { IfOk result (λ ways. (sent_by ways.0 ≡ accepted self.new) × (given_to ways.1 ≡ accepted self.new)) }

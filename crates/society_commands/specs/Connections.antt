@@ -27,7 +27,7 @@ use Rattle.society_opening.specs.declared.open_fault.OpenFault.TheVariants.{Empt
 use Rattle.society_arguments.specs.declared.words.Listening.{Listening}
 use Rattle.society_commands.specs.Closing.{HandsBack}
 use Rattle.desk_connections.specs.Connections.{IsCounted, Prints, ServesEach, connection_lines, parts_brought, replies_given}
-use Rattle.desk_connections.specs.Doors.{AreNumbered, CameIn, Connection, IsLoopback, Network}
+use Rattle.desk_connections.specs.Doors.{CameIn, ComeInOrder, Connection, IsLoopback, Network}
 use Rattle.society_commands.specs.declared.machine.OpenDatabase.{Ghosts as Opens}
 use Rattle.society_commands.specs.declared.left.Left.{Left}
 use Rattle.society_commands.specs.declared.left.Left.TheVariants as left
@@ -46,7 +46,7 @@ serving_as job office = serving_of job.database job.place office
 pub record ServesStore {N D R V S W : Type 0} (net : Network N D R V) (state : S → State) (desk new_desk : S) (contents : W → Option (List ℕ)) (out new_out : Counted W) (port count : ℕ) (failed : Bool) : Type 0 where
   pub connections : List (Connection R V)
   pub number : length connections ≡ count
-  pub numbered : AreNumbered net.ways 1 connections
+  pub numbered : ComeInOrder net.ways 1 connections
   pub each : ServesEach net.ways state connections desk new_desk
   pub counted : AllByRecursion IsCounted connections
   pub answers : AreAnswered state (parts_brought connections) (replies_given connections) desk new_desk
@@ -116,10 +116,10 @@ pub record IsSoundDatabase (office : Office) (found left : connection.State) : T
   pub sound : FindsSoundly office found left
   pub crash : connection.Survives found left (λ db. ⊥)
 
--- a connection was opened at a path: it is new, shows what it may show, and where a database had to be there, it was
+-- a connection was opened at a path: it is new, is what it may be there, and where a database had to be there, it was
 pub record IsOpenedAt {O F : Type 0} {g : disk.Ghosts F} (opens : Opens O F) (path : List ℕ) (existing : Bool) (conn : Held (FileStore F g)) : Type 0 where
   pub new : IsNew conn
-  pub shows : opens.may_open path (file_state conn)
+  pub shows : opens.may_open g path conn
   pub there : IsTrue existing → opens.may_find path true
 
 -- what could have opened a database was not used, so nothing was opened
@@ -160,23 +160,23 @@ StopsServingDatabase {S = S} net state office existing found ended contents out 
     (begun : S) × IsOver office existing found (state begun) × StopsServingStore net state begun ended contents out new_out place Told
 
 -- so many connections were served over a database, and its store is left as they left it
-abbrev pub LeavesServed : {C N D R V S W : Type 0} → Network N D R V → (S → State) → Office → Bool → connection.State → Result S C → (W → Option (List ℕ)) → Counted W → Counted W → Listening → Type 0
-LeavesServed net state office existing found (Ok ended) contents out new_out place = ServesDatabase net state office existing found ended contents out new_out place
-LeavesServed net state office existing found (Err left) contents out new_out place = ⊥
+abbrev pub LeavesServed : {C N D R V S W : Type 0} → Network N D R V → (S → State) → Serving → connection.State → Result S C → (W → Option (List ℕ)) → Counted W → Counted W → Type 0
+LeavesServed net state s found (Ok ended) contents out new_out = ServesDatabase net state s.office s.existing found ended contents out new_out s.place
+LeavesServed net state s found (Err left) contents out new_out = ⊥
 
 -- serving ended early, and its store is left as the connections left it; or the database was not opened, its connection is left as
 -- opening left it, and nothing was printed
-abbrev pub LeavesBroken : {C N D R V S W : Type 0} → (C → connection.State) → Network N D R V → (S → State) → Office → Bool → connection.State → Result S C → (W → Option (List ℕ)) → Counted W → Counted W → Listening → (Trouble → Type 0) → Type 0
-LeavesBroken show net state office existing found (Ok ended) contents out new_out place Told =
-    StopsServingDatabase net state office existing found ended contents out new_out place Told
-LeavesBroken show net state office existing found (Err left) contents out new_out place Told =
-    (fault : OpenFault) × IsNotOpened office existing fault found (show left) × (new_out ≡ out) × Told (Database fault)
+abbrev pub LeavesBroken : {C N D R V S W : Type 0} → (C → connection.State) → Network N D R V → (S → State) → Serving → C → Result S C → (W → Option (List ℕ)) → Counted W → Counted W → (Trouble → Type 0) → Type 0
+LeavesBroken show net state s found (Ok ended) contents out new_out Told =
+    StopsServingDatabase net state s.office s.existing (show found) ended contents out new_out s.place Told
+LeavesBroken show net state s found (Err left) contents out new_out Told =
+    (fault : OpenFault) × IsNotOpened s.office s.existing fault (show found) (show left) × (new_out ≡ out) × Told (Database fault)
 
 -- the database of a path was opened, as many connections as were asked for were served over it, and its store was closed as they left it
 abbrev pub ServesOpened : {F N D R V O S W : Type 0} {g : disk.Ghosts F} → (S → State) → (S → Held (FileStore F g)) → Network N D R V → Opens O F → Serving → (W → Option (List ℕ)) → Counted W → Counted W → Left F O g → Type 0
 ServesOpened {F = F} {S = S} {g = g} state conn_of net opens s contents out new_out rest =
     (conn : Held (FileStore F g)) × IsOpenedAt opens s.path s.existing conn
-    × ((ended : Result S (Held (FileStore F g))) × LeavesServed net state s.office s.existing (file_state conn) ended contents out new_out s.place
+    × ((ended : Result S (Held (FileStore F g))) × LeavesServed net state s (file_state conn) ended contents out new_out
     × HandsBack state conn_of ended rest)
 
 -- serving so ended early: no database could be opened, and nothing was printed; or this was left of it, and closed where it is a store
@@ -184,7 +184,7 @@ abbrev pub StopsServingOpened : {F N D R V O S W : Type 0} {g : disk.Ghosts F} �
 StopsServingOpened {F = F} {S = S} {g = g} state conn_of net opens opener s contents out new_out Told rest =
     ((fault : OpenFault) × LeavesRefused opens opener s.path s.existing fault rest × (new_out ≡ out) × Told (Database fault))
     ⊎ ((conn : Held (FileStore F g)) × IsOpenedAt opens s.path s.existing conn
-    × ((ended : Result S (Held (FileStore F g))) × LeavesBroken file_state net state s.office s.existing (file_state conn) ended contents out new_out s.place Told
+    × ((ended : Result S (Held (FileStore F g))) × LeavesBroken file_state net state s conn ended contents out new_out Told
     × HandsBack state conn_of ended rest))
 
 -- but to serve a database or to audit one, words ask to open nothing: the opener is left as it was given

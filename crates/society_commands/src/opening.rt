@@ -4,7 +4,6 @@ ghost use Rattle.sqlite.specs.Files.{file_state};
 ghost use Rattle.sqlite.specs.Held.{state};
 ghost use Rattle.sqlite.specs.Held.{IsNew};
 ghost use Rattle.society_commands.specs.Connections.{IsNotOpened, IsOpenedAt, IsOver, LeavesBroken, LeavesRefused, LeavesServed, ServesOpened, StopsServingOpened, serving_as};
-ghost use Rattle.desk_connections.specs.Doors.{network};
 ghost use Rattle.society_commands.specs.Troubles.{Tells};
 
 use crate::closing::close_left;
@@ -12,7 +11,7 @@ use crate::left::Left;
 use crate::machine::OpenDatabase;
 use crate::serving::serve_store;
 use crate::trouble::{Trouble, tell};
-use desk_connections::Listen;
+use desk_connections::{Listen, Network};
 use http_desk::Counted;
 use share_rules::Office;
 use society_arguments::{Database, Listening};
@@ -44,12 +43,12 @@ pub fn serve_file<N: Listen + Drop, O: OpenDatabase, W: Write, E: Write>(
     err: &mut Counted<E>,
 ) -> (u8, Left<O::File, O>)
     ensures status { (result.0 ≡ 0) ⊎ (result.0 ≡ 1) }
-    ensures served { result.0 ≡ 0 → ServesOpened ⟦<Tables<FileStore<O::File>> as Store>⟧.state (λ t. t.conn) (network N.Listen N.Door.Door N.Door.Sent.Read.remaining N.Door.Given.Write.contents) O.OpenDatabase
-        (serving_as job.entry office.now) W.contents out.old out.new result.1 }
+    ensures served { result.0 ≡ 0 → ServesOpened ⟦<Tables<FileStore<O::File>> as Store>⟧.state (λ t. t.conn) ⟦<N as Network>⟧.network
+        O.OpenDatabase (serving_as job.entry office.now) W.contents out.old out.new result.1 }
     // Nothing is printed where the database is not opened, or nothing can be listened on; else fewer connections came. In each case
     // the clause names what is left of the database.
-    ensures broken_off { result.0 ≡ 1 → StopsServingOpened ⟦<Tables<FileStore<O::File>> as Store>⟧.state (λ t. t.conn) (network N.Listen N.Door.Door N.Door.Sent.Read.remaining N.Door.Given.Write.contents) O.OpenDatabase opener
-        (serving_as job.entry office.now) W.contents out.old out.new (Tells E.contents err.old err.new) result.1 }
+    ensures broken_off { result.0 ≡ 1 → StopsServingOpened ⟦<Tables<FileStore<O::File>> as Store>⟧.state (λ t. t.conn) ⟦<N as Network>⟧.network
+        O.OpenDatabase opener (serving_as job.entry office.now) W.contents out.old out.new (Tells E.contents err.old err.new) result.1 }
 {
     match open_there(opener, job.database) {
         Ok(connection) => {
@@ -95,10 +94,10 @@ fn serve_database<N: Listen + Drop, M: Alter, W: Write, E: Write>(
 ) -> (u8, Result<Tables<M>, Connection<M>>)
     requires { connection.in_transaction ≡ false }
     ensures status { (result.0 ≡ 0) ⊎ (result.0 ≡ 1) }
-    ensures served { result.0 ≡ 0 → LeavesServed (network N.Listen N.Door.Door N.Door.Sent.Read.remaining N.Door.Given.Write.contents) ⟦<Tables<M> as Store>⟧.state office.now job.entry.database.existing (state M.Store connection)
-        result.1 W.contents out.old out.new job.entry.place }
-    ensures broken_off { result.0 ≡ 1 → LeavesBroken (state M.Store) (network N.Listen N.Door.Door N.Door.Sent.Read.remaining N.Door.Given.Write.contents) ⟦<Tables<M> as Store>⟧.state office.now job.entry.database.existing
-        (state M.Store connection) result.1 W.contents out.old out.new job.entry.place (Tells E.contents err.old err.new) }
+    ensures served { result.0 ≡ 0 → LeavesServed ⟦<N as Network>⟧.network ⟦<Tables<M> as Store>⟧.state (serving_as job.entry office.now)
+        (state M.Store connection) result.1 W.contents out.old out.new }
+    ensures broken_off { result.0 ≡ 1 → LeavesBroken (state M.Store) ⟦<N as Network>⟧.network ⟦<Tables<M> as Store>⟧.state
+        (serving_as job.entry office.now) connection result.1 W.contents out.old out.new (Tells E.contents err.old err.new) }
 {
     match open_tables(alloc, connection, job.database.existing, office) {
         Ok(tables) => {

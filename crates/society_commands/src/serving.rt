@@ -1,12 +1,11 @@
 //! The office as a server on this machine.
 ghost use Rattle.std.specs.Prelude.{◌≡◌, ◌⊎◌, false};
 ghost use Rattle.society_commands.specs.Connections.{ServesStore, StopsServingStore};
-ghost use Rattle.desk_connections.specs.Doors.{network};
 ghost use Rattle.society_commands.specs.Troubles.{Tells};
 
 use crate::replaying::SERVED;
 use crate::trouble::{Trouble, tell};
-use desk_connections::{AcceptFault, Listen, print, serve_connections};
+use desk_connections::{AcceptFault, Listen, Network, print, serve_connections};
 use http_desk::Counted;
 use society_arguments::Listening;
 use society_core::{Desk, Store};
@@ -26,13 +25,9 @@ pub fn serve_store<N: Listen, S: Store, W: Write, E: Write>(
 ) -> u8
     ensures status { (result ≡ 0) ⊎ (result ≡ 1) }
     // The store is led from where it stood to where the last request left it.
-    ensures served { result ≡ 0
-        → ServesStore (network N.Listen N.Door.Door N.Door.Sent.Read.remaining N.Door.Given.Write.contents)
-        S.state desk.old desk.new W.contents out.old out.new place.port place.connections false }
+    ensures served { result ≡ 0 → ServesStore ⟦<N as Network>⟧.network S.state desk.old desk.new W.contents out.old out.new place.port place.connections false }
     // The store is the same and nothing is printed where it cannot listen; else fewer connections came. Its line says which.
-    ensures broken_off { result ≡ 1
-        → StopsServingStore (network N.Listen N.Door.Door N.Door.Sent.Read.remaining N.Door.Given.Write.contents)
-        S.state desk.old desk.new W.contents out.old out.new place (Tells E.contents err.old err.new) }
+    ensures broken_off { result ≡ 1 → StopsServingStore ⟦<N as Network>⟧.network S.state desk.old desk.new W.contents out.old out.new place (Tells E.contents err.old err.new) }
 {
     let address = SocketAddrV4::new(Ipv4Addr::LOCALHOST, place.port);
     let Ok(mut door) = net.listen(address) else {

@@ -5,7 +5,6 @@ ghost use Rattle.clap.specs.Words.{kind_of};
 ghost use Rattle.clap.specs.declared.error.kind.ErrorKind.TheVariants.{DisplayHelp, OutOfMemory};
 ghost use Rattle.http_desk.specs.Serves.{KeepsTurns, NeitherFails};
 ghost use Rattle.society_commands.specs.Connections.{FindsSound, FindsUnsound, ServesOpened, StopsServingOpened, IsUnused, UsesNothing};
-ghost use Rattle.desk_connections.specs.Doors.{network};
 ghost use Rattle.society_commands.specs.Replays.{Replays, BreaksOff};
 ghost use Rattle.desk_connections.specs.Faults.{most_turns};
 ghost use Rattle.society_commands.specs.Refusals.{status_after, no_words_by, status_without};
@@ -20,7 +19,7 @@ use crate::replaying::{SERVED, replay};
 use crate::trouble::{Trouble, tell};
 use clap::Error;
 use clap::error::ErrorKind as ClapKind;
-use desk_connections::{Listen, print};
+use desk_connections::{Listen, Network, print};
 use http_desk::{Counted, DeskFault, FaultKind};
 use society_arguments::{Words, words_in};
 use society_core::Store;
@@ -72,9 +71,9 @@ pub fn start<N: Listen + Drop, O: OpenDatabase, R: Read, W: Write, E: Write>(
     ensures kept { EndsReplay (asks words.now) 0 result.0 (λ office. NeitherFails reader.old reader.new out.old out.new) }
     ensures turns { WantsReplay (asks words.now) → IfOk result.0 (λ status. KeepsTurns R.remaining reader.old reader.new most_turns) }
     ensures served { EndsServing (asks words.now) 0 result.0 (λ s. ServesOpened
-        ⟦<Tables<FileStore<O::File>> as Store>⟧.state (λ t. t.conn) (network N.Listen N.Door.Door N.Door.Sent.Read.remaining N.Door.Given.Write.contents) O.OpenDatabase s W.contents out.old out.new result.1) }
+        ⟦<Tables<FileStore<O::File>> as Store>⟧.state (λ t. t.conn) ⟦<N as Network>⟧.network O.OpenDatabase s W.contents out.old out.new result.1) }
     ensures stopped { EndsServing (asks words.now) 1 result.0 (λ s. StopsServingOpened
-        ⟦<Tables<FileStore<O::File>> as Store>⟧.state (λ t. t.conn) (network N.Listen N.Door.Door N.Door.Sent.Read.remaining N.Door.Given.Write.contents) O.OpenDatabase opener s W.contents out.old out.new (Tells E.contents err.old err.new) result.1) }
+        ⟦<Tables<FileStore<O::File>> as Store>⟧.state (λ t. t.conn) ⟦<N as Network>⟧.network O.OpenDatabase opener s W.contents out.old out.new (Tells E.contents err.old err.new) result.1) }
     ensures sound { EndsAudit (asks words.now) 0 result.0 (λ path office.
         FindsSound O.OpenDatabase path office W.contents out.old out.new result.1) }
     ensures unsound { EndsAudit (asks words.now) 1 result.0 (λ path office.

@@ -99,6 +99,9 @@ impl<'a> Door for HostDoor<'a> {
     /// What says nothing of the listener is tried again for half a minute: that no descriptor is left, or that a peer went before it was
     /// accepted. No read and no write of a connection waits longer than half a minute, where the system lets that be set.
     fn accept(&mut self) -> Result<(Patient<Host<'a>>, Patient<Host<'a>>), AcceptFault> {
+        let Some(number) = self.accepted.checked_add(1) else {
+            return Err(self.fail());
+        };
         let Ok(stream) = accept(&self.host, &self.listener) else {
             return Err(self.fail());
         };
@@ -106,9 +109,9 @@ impl<'a> Door for HostDoor<'a> {
             return Err(self.fail());
         };
         bound_waits(&stream, Duration::from_secs(LONGEST_WAIT));
-        self.accepted += 1;
-        let sent = Patient::new(self.host, stream, self.accepted);
-        Ok((sent, Patient::new(self.host, other, self.accepted)))
+        self.accepted = number;
+        let sent = Patient::new(self.host, stream, number);
+        Ok((sent, Patient::new(self.host, other, number)))
     }
 
     fn part(&mut self, sent: Patient<Host<'a>>, given: Patient<Host<'a>>) {

@@ -14,8 +14,8 @@ use Rattle.http_desk.specs.declared.fault.DeskFault.{DeskFault}
 use Rattle.http_desk.proofs.lemmas.AnsweredLemmas.{answered_on, none_answered}
 use Rattle.society_core.specs.Requests.{Reply}
 use Rattle.society_core.specs.State.{Rises, State}
-use Rattle.desk_connections.specs.Connections.{IsCounted, Prints, ServesConnections, ServesEach, ServesNext, ServesOne, connection_line, connection_lines, parts_brought, replies_given}
-use Rattle.desk_connections.specs.Doors.{AreNumbered, Connection, Ways}
+use Rattle.desk_connections.specs.Connections.{IsCounted, IsGivenUpSo, IsServedSo, Prints, ServesConnections, ServesEach, ServesNext, ServesOne, connection_line, connection_lines, parts_brought, replies_given, requests_of}
+use Rattle.desk_connections.specs.Doors.{ComeInOrder, Connection, Ways}
 use Rattle.desk_connections.specs.Faults.{most_turns}
 
 -- ---- what is printed
@@ -72,8 +72,8 @@ module _ {D R V : Type 0} (ways : Ways D R V) where
   replies_more : (cs : List (Connection R V)) (c : Connection R V) → replies_given (cs ++ c ∷ []) ≡ replies_given cs ++ c.replies
   replies_more cs c = flat_map-append (λ (d : Connection R V). d.replies) cs (c ∷ []) ∙ ap (λ (v : List Reply). replies_given cs ++ v) (append-nil c.replies)
 
-  numbered_more : (number : ℕ) (cs : List (Connection R V)) (c : Connection R V) → AreNumbered ways number cs
-      → ways.doors.sent_by c.sent ≡ number + length cs → ways.doors.given_to c.given ≡ number + length cs → AreNumbered ways number (cs ++ c ∷ [])
+  numbered_more : (number : ℕ) (cs : List (Connection R V)) (c : Connection R V) → ComeInOrder ways number cs
+      → ways.doors.sent_by c.sent ≡ number + length cs → ways.doors.given_to c.given ≡ number + length cs → ComeInOrder ways number (cs ++ c ∷ [])
   numbered_more number [] c all sent given = (omega (arith, sent), omega (arith, given), tt)
   numbered_more number (d ∷ cs) c all sent given = (all.0, all.1, numbered_more (number + 1) cs c all.2 (omega (arith, sent)) (omega (arith, given)))
 
@@ -83,10 +83,10 @@ module _ {D R V : Type 0} (ways : Ways D R V) where
   each_more state (d ∷ cs) c old mid new each one = (each.0, each.1, each_more state cs c each.0 mid new each.2 one)
 
   -- one more connection came
-  pub serves_more : {S W : Type 0} (state : S → State) (old mid new : S) (contents : W → Option (List ℕ)) (first out new_out : Counted W) (door new_door : D) (count : ℕ) (outcome : Result Served DeskFault)
-      → ServesConnections ways state old mid contents first out count → ways.doors.accepted door ≡ count → ServesNext ways state mid new door new_door outcome → Prints contents out new_out (connection_line (count + 1) outcome)
-      → ServesConnections ways state old new contents first new_out (count + 1)
-  serves_more state old mid new contents first out new_out door new_door count outcome so came next printed =
+  pub serves_more : {S W : Type 0} (state : S → State) (old mid new : S) (contents : W → Option (List ℕ)) (first out new_out : Counted W) (begun door new_door : D) (count : ℕ) (outcome : Result Served DeskFault)
+      → ServesConnections ways state old mid contents first out begun count → ways.doors.accepted door ≡ ways.doors.accepted begun + count → ServesNext ways state mid new door new_door outcome → Prints contents out new_out (connection_line (count + 1) outcome)
+      → ServesConnections ways state old new contents first new_out begun (count + 1)
+  serves_more state old mid new contents first out new_out begun door new_door count outcome so came next printed =
       let c = next.0 in
       let one = next.2 in
       let cs = so.connections in
@@ -94,7 +94,7 @@ module _ {D R V : Type 0} (ways : Ways D R V) where
       record {
         connections = cs ++ c ∷ [];
         number = omega (arith, length-append cs (c ∷ []), so.number);
-        numbered = numbered_more 1 cs c so.numbered (omega (arith, next.4, came, so.number)) (omega (arith, next.5, came, so.number));
+        numbered = numbered_more (ways.doors.accepted begun + 1) cs c so.numbered (omega (arith, next.4, came, so.number)) (omega (arith, next.5, came, so.number));
         each = each_more state cs c old mid new so.each one;
         counted = counted_more cs c so.counted one.count;
         answers =
@@ -109,8 +109,8 @@ module _ {D R V : Type 0} (ways : Ways D R V) where
       }
 
   -- none came yet
-  pub serves_none : {S W : Type 0} (state : S → State) (desk : S) (contents : W → Option (List ℕ)) (out : Counted W) → ServesConnections ways state desk desk contents out out 0
-  serves_none state desk contents out = record {
+  pub serves_none : {S W : Type 0} (state : S → State) (desk : S) (contents : W → Option (List ℕ)) (out : Counted W) (door : D) → ServesConnections ways state desk desk contents out out door 0
+  serves_none state desk contents out door = record {
     connections = [];
     number = refl;
     numbered = tt;
@@ -120,48 +120,35 @@ module _ {D R V : Type 0} (ways : Ways D R V) where
     printed = inr (refl, appends_nothing (contents (inner_of out)));
   }
 
-  -- a connection that was served from its ways, or given up, is one with the requests of which that is told
-  pub serves_one : {S : Type 0} (state : S → State) (desk new_desk : S) (sent : R) (given : V) (reader new_reader : Counted R) (writer new_writer : Counted V) (outcome : Result Served DeskFault)
-      → inner_of reader ≡ sent → inner_of writer ≡ given
-      → IfOk outcome (IsServed state ways.sent ways.given desk new_desk reader writer new_writer)
-      → IfErr outcome (IsGivenUp state ways.sent ways.given desk new_desk reader new_reader writer new_writer most_turns)
-      → OnOk outcome (NeitherFails reader new_reader writer new_writer) → KeepsTurns ways.sent reader new_reader most_turns
-      → (c : Connection R V) × (c.outcome ≡ outcome) × (c.sent ≡ sent) × (c.given ≡ given) × ServesOne ways state desk new_desk c
-  serves_one state desk new_desk sent given reader new_reader writer new_writer (Ok served) reads writes is none kept turns = (
-    record { sent = sent; given = given; parts = is.parts; replies = is.replies; outcome = Ok served },
-    refl,
-    refl,
-    refl,
-    record {
+  -- what is known of a connection is that it was served from its two ways
+  module _ {S : Type 0} (state : S → State) (desk new_desk : S) (reader new_reader : Counted R) (writer new_writer : Counted V) where
+    one_served : (c : Connection R V) → (inner_of reader ≡ c.sent) × (inner_of writer ≡ c.given)
+        → IfOk c.outcome (IsServedSo ways state desk new_desk reader writer new_writer c) → IfErr c.outcome (IsGivenUpSo ways state desk new_desk reader new_reader writer new_writer c)
+        → OnOk c.outcome (NeitherFails reader new_reader writer new_writer) → KeepsTurns ways.sent reader new_reader most_turns
+        → requests_of c.outcome ≡ length c.parts → AreAnswered state c.parts c.replies desk new_desk → ServesOne ways state desk new_desk c
+    one_served c begins served given_up kept turns count answers = record {
       reader = reader;
       new_reader = new_reader;
       writer = writer;
       new_writer = new_writer;
-      begins = (reads, writes);
-      served = (is, refl, refl);
-      given_up = tt;
+      begins = begins;
+      served = served;
+      given_up = given_up;
       kept = kept;
       turns = turns;
-      count = is.count;
-      answers = is.answers;
-    },
-  )
-  serves_one state desk new_desk sent given reader new_reader writer new_writer (Err fault) reads writes none is kept turns = (
-    record { sent = sent; given = given; parts = is.breaks.parts; replies = is.breaks.replies; outcome = Err fault },
-    refl,
-    refl,
-    refl,
-    record {
-      reader = reader;
-      new_reader = new_reader;
-      writer = writer;
-      new_writer = new_writer;
-      begins = (reads, writes);
-      served = tt;
-      given_up = (is, refl, refl);
-      kept = kept;
-      turns = turns;
-      count = is.breaks.count;
-      answers = is.breaks.answers;
-    },
-  )
+      count = count;
+      answers = answers;
+    }
+
+    -- a connection that was served from its ways, or given up, is one with the requests of which that is told
+    pub serves_one : (sent : R) (given : V) (outcome : Result Served DeskFault) → inner_of reader ≡ sent → inner_of writer ≡ given
+        → IfOk outcome (IsServed state ways.sent ways.given desk new_desk reader writer new_writer)
+        → IfErr outcome (IsGivenUp state ways.sent ways.given desk new_desk reader new_reader writer new_writer most_turns)
+        → OnOk outcome (NeitherFails reader new_reader writer new_writer) → KeepsTurns ways.sent reader new_reader most_turns
+        → (c : Connection R V) × (c.outcome ≡ outcome) × (c.sent ≡ sent) × (c.given ≡ given) × ServesOne ways state desk new_desk c
+    serves_one sent given (Ok served) reads writes is none kept turns =
+        let c : Connection R V = record { sent = sent; given = given; parts = is.parts; replies = is.replies; outcome = Ok served } in
+        (c, refl, refl, refl, one_served c (reads, writes) (is, refl, refl) tt kept turns is.count is.answers)
+    serves_one sent given (Err fault) reads writes none is kept turns =
+        let c : Connection R V = record { sent = sent; given = given; parts = is.breaks.parts; replies = is.breaks.replies; outcome = Err fault } in
+        (c, refl, refl, refl, one_served c (reads, writes) tt (is, refl, refl) kept turns is.breaks.count is.breaks.answers)

@@ -1,25 +1,39 @@
 -- What was served over a store, and over a database.
-use Rattle.std.proofs.Common.{◌≡◌, ℕ, Bool, List, Option, false, subst, sym}
+use Rattle.std.proofs.Common.{◌≡◌, ◌+◌, ℕ, Bool, List, Option, arith, false, subst, sym}
 use Rattle.std.specs.Prelude.{codes}
+use Rattle.std.specs.declared.net.socket_addr.SocketAddrV4.{SocketAddrV4}
 use Rattle.http_desk.specs.declared.counted.Counted.{Counted}
 use Rattle.society_core.specs.State.{State}
 use Rattle.sqlite.specs.State as connection
 use Rattle.share_rules.specs.declared.office.Office.{Office}
 use Rattle.society_arguments.specs.declared.words.Listening.{Listening}
-use Rattle.desk_connections.specs.Connections.{Prints, ServesConnections, connection_lines}
-use Rattle.desk_connections.specs.Doors.{CameIn, Network}
+use Rattle.desk_connections.specs.Connections.{AdmitsMore, Prints, ServesConnections, connection_lines}
+use Rattle.desk_connections.specs.Doors.{CameIn, ComeInOrder, IsLoopback, Network}
 use Rattle.desk_connections.proofs.lemmas.ConnectionLemmas.{prints_on}
 use Rattle.society_commands.specs.declared.trouble.Trouble.{Trouble}
 use Rattle.society_commands.specs.Connections.{IsOver, ServesDatabase, ServesStore, StopsServingDatabase, StopsServingStore}
 
--- what was served over a store, behind `listening`
-pub serves_store : {N D R V S W : Type 0} (net : Network N D R V) (state : S → State) (desk new_desk : S) (contents : W → Option (List ℕ)) (first out new_out : Counted W) (port count : ℕ) (failed : Bool)
-    → Prints contents first out (codes "listening\n") → ServesConnections net.ways state desk new_desk contents out new_out count → CameIn net port count failed
+-- connections came in at a port, by a door by which nobody had come in
+pub came_in : {N D R V : Type 0} (net : Network N D R V) (address : SocketAddrV4) (door ended : D) (port count : ℕ) (failed : Bool)
+    → IsLoopback port address → net.listens.listens_at address door → net.ways.doors.accepted door ≡ 0 → AdmitsMore net.ways door ended count failed
+    → CameIn net port count failed
+came_in net address door ended port count failed here listens none admitted = record {
+  address = address;
+  door = door;
+  ended = ended;
+  is_here = here;
+  listens = listens;
+  admitted = (let e = admitted.0 in omega (arith, none, e), admitted.1);
+}
+
+-- what was served over a store, behind `listening`, by a door by which nobody had come in
+pub serves_store : {N D R V S W : Type 0} (net : Network N D R V) (state : S → State) (desk new_desk : S) (contents : W → Option (List ℕ)) (first out new_out : Counted W) (door : D) (port count : ℕ) (failed : Bool)
+    → Prints contents first out (codes "listening\n") → net.ways.doors.accepted door ≡ 0 → ServesConnections net.ways state desk new_desk contents out new_out door count → CameIn net port count failed
     → ServesStore net state desk new_desk contents first new_out port count failed
-serves_store net state desk new_desk contents first out new_out port count failed listening s came = record {
+serves_store net state desk new_desk contents first out new_out door port count failed listening none s came = record {
   connections = s.connections;
   number = s.number;
-  numbered = s.numbered;
+  numbered = subst (λ (n : ℕ). ComeInOrder net.ways (n + 1) s.connections) none s.numbered;
   each = s.each;
   counted = s.counted;
   answers = s.answers;

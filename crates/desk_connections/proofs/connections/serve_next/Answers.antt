@@ -9,8 +9,8 @@ returns g c =
     let sent = c.in_ok-sent.sent in
     let given = c.in_ok-sent.given in
     let serves = c.serve-outcome.ensures in
-    let one = serves_one (ways_by g.D.Door g.D.Sent.Read.remaining g.D.Given.Write.contents) g.S.Store.state c.args.desk.now c.serve-outcome.new.desk sent given c.new-reader.result c.serve-outcome.new.reader
-    c.new-writer.result c.serve-outcome.new.writer c.serve-outcome.result c.new-reader.ensures.inner c.new-writer.ensures.inner serves.served serves.err serves.kept serves.turns in
+    let one = serves_one (ways_by g.D.Door g.D.Sent.Read.remaining g.D.Given.Write.contents) g.S.Store.state c.args.desk.now c.serve-outcome.new.desk c.new-reader.result c.serve-outcome.new.reader
+    c.new-writer.result c.serve-outcome.new.writer sent given c.serve-outcome.result c.new-reader.ensures.inner c.new-writer.ensures.inner serves.served serves.err serves.kept serves.turns in
     record {
       served = (
         one.0,

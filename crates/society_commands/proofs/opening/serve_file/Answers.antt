@@ -2,7 +2,7 @@ use Rattle.std.proofs.Common.{◌≡◌, arith, inl, inr, refl, subst, sym}
 use Rattle.http_desk.specs.declared.counted.Counted.{Counted}
 use Rattle.sqlite.specs.Files.{file_state}
 use Rattle.society_book.specs.Kept.{tables_state}
-use Rattle.society_commands.specs.Connections.{LeavesBroken}
+use Rattle.society_commands.specs.Connections.{LeavesBroken, serving_as}
 use Rattle.desk_connections.specs.Doors.{network}
 use Rattle.society_commands.specs.Troubles.{Tells}
 use Rattle.society_commands.proofs.opening.serve_file.Goals as goal
@@ -20,8 +20,8 @@ returns-in-Ok-clause-broken_off g c = λ one.
     let quiet = c.close_left.ensures.quiet (λ zero. omega (arith, zero, one)) in
     let broken = same_writer
     (λ (err : Counted _).
-    LeavesBroken file_state (network g.N.Listen g.N.Door.Door g.N.Door.Sent.Read.remaining g.N.Door.Given.Write.contents) (λ t. tables_state t.office (file_state t.conn) t.failures) c.args.office.now c.args.job.database.existing (file_state c.in-Ok.connection)
-    c.serve_database-status.result.1 g.W.Write.contents c.args.out.now c.serve_database-status.new.out c.args.job.place (Tells g.E.Write.contents c.args.err.now err))
+    LeavesBroken file_state (network g.N.Listen g.N.Door.Door g.N.Door.Sent.Read.remaining g.N.Door.Given.Write.contents) (λ t. tables_state t.office (file_state t.conn) t.failures) (serving_as c.args.job c.args.office.now) c.in-Ok.connection
+    c.serve_database-status.result.1 g.W.Write.contents c.args.out.now c.serve_database-status.new.out (Tells g.E.Write.contents c.args.err.now err))
     c.serve_database-status.new.err c.close_left.new.err quiet (c.serve_database-status.ensures.broken_off one) in
     inr (c.in-Ok.connection, c.in-Ok.ensures.opened, (c.serve_database-status.result.1, broken, c.close_left.ensures.handed))
 
