@@ -23,6 +23,7 @@ import time
 
 import common
 from common import NO_WORKS, OFFICE, ROOT, SENDER
+from society_office import page_sums
 
 BACKUP, RESTORE = ROOT / "debian/bin/society-backup", ROOT / "debian/bin/society-restore"
 PATH = f"/v1/senders/{SENDER}/transmissions"
@@ -391,7 +392,7 @@ def for_a_group(office):
 def damage_is_told(office):
     office.send(2)
     office.stop()
-    with contextlib.closing(sqlite3.connect(office.database)) as it, it:
+    with page_sums.changed(office.database) as it:
         it.execute("UPDATE fronts SET front = 1")
     failed("a damaged file", office.backed_up(), "damaged")
     check("no copy of it", list(office.copies.glob("office-*")), [])
@@ -406,7 +407,7 @@ def restores(office):
     office.as_service()
     broken = office.folder / "broken.db"
     shutil.copy(copy, broken)
-    with contextlib.closing(sqlite3.connect(broken)) as it, it:
+    with page_sums.changed(broken) as it:
         it.execute("UPDATE fronts SET front = 1")
     known = "--sender", SENDER, "--front"
     try:

@@ -15,6 +15,8 @@ import threading
 import time
 
 ROOT = pathlib.Path(__file__).resolve().parent.parent
+# (what reads and changes an office's file stands with the tools of the office)
+sys.path.append(str(ROOT / "office"))
 OFFICE = ["--society", "900", "--territory", "40", "--name", "EXAMPLE SOCIETY"]
 MAX_BODY = 1_048_576
 SENDER = "PB000000012"

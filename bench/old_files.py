@@ -11,13 +11,13 @@ each layout; reported are the seconds that passed and the peak memory until it l
 import pathlib
 import shutil
 import socket
-import sqlite3
 import subprocess
 import sys
 import tempfile
 
 import common
 from common import OFFICE, ROOT, Server
+from society_office import page_sums
 
 # What makes layout 2 of layout 3, and layout 1 of layout 2.
 SECOND = "DROP TABLE mechanical_pools; DROP TABLE segment_ends; UPDATE office SET layout = 2;"
@@ -44,10 +44,9 @@ CHANGES = [
 
 def changed_by(path, statements):
     """Runs statements on a file with sqlite3, so that nothing is left beside it."""
-    connection = sqlite3.connect(path)
-    connection.executescript(statements)
-    connection.execute("PRAGMA wal_checkpoint(TRUNCATE)")
-    connection.close()
+    with page_sums.changed(path) as connection:
+        connection.executescript(statements)
+        connection.execute("PRAGMA wal_checkpoint(TRUNCATE)")
 
 
 def answers_to(server, stream):

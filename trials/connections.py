@@ -18,7 +18,7 @@ FIRST_ACK = (
 
 def both(number, body, ack):
     """A put and the request of its acknowledgement, and the answers to them."""
-    return put_file(body, number) + acknowledgement(number), applied(number) + answer(b"200 OK", ack, "octet-stream")
+    return put_file(body, number) + acknowledgement(number), applied(number) + answer(b"200 OK", ack, "application/octet-stream")
 
 
 # A name, what each peer sends and gets, in the order in which they come, and the requests of each connection that are counted.

@@ -4,6 +4,7 @@ import sqlite3
 
 from common import FIRST, NO_WORKS, REVISION, SENDER, order_body, put_file, put_named, put_pool, put_return, request, state_end
 from program import SERVED_ONE, Server, served_one, told, trial
+from society_office import page_sums
 
 
 # Requests that leave a database.
@@ -54,8 +55,8 @@ def left_by(program, folder, name, requests):
 
 
 def change(path, statements):
-    """Runs statements over a database."""
-    with contextlib.closing(sqlite3.connect(path)) as database:
+    """Runs statements over a database, whose pages are summed anew where they have sums."""
+    with page_sums.changed(path) as database:
         database.executescript(f"PRAGMA foreign_keys = ON; {statements}")
 
 

@@ -328,7 +328,7 @@ def older_databases_are_taken_over(program, folder):
 def pools_of_older_databases_are_shown(program, folder):
     """Who asks for a pool after an older database was taken over is answered as before."""
     left, asked = left_by(program, folder, "left.db", CLOSED_AT_A_CUT), get("/v1/pools/7")
-    wanted = answer(b"200 OK", POOL_TABLE).replace(b"application/json", b"text/csv")
+    wanted = answer(b"200 OK", POOL_TABLE, "text/csv")
     for row, layout in (("layout 3", ""), ("layout 1", LAYOUT_1), ("layout 2", LAYOUT_2)):
         change(shutil.copy(left, folder / "older.db"), layout)
         with Server(program, folder, "older.db") as server:

@@ -140,8 +140,8 @@ def acknowledgement(number):
     return get(f"/v1/senders/PB000000012/acks/{number}")
 
 
-def answer(status, body, kind="json"):
-    return b"HTTP/1.1 %s\r\nContent-Type: application/%s\r\nContent-Length: %d\r\n\r\n%s" % (status, kind.encode(), len(body), body)
+def answer(status, body, kind="application/json"):
+    return b"HTTP/1.1 %s\r\nContent-Type: %s\r\nContent-Length: %d\r\n\r\n%s" % (status, kind.encode(), len(body), body)
 
 
 def applied(front):

@@ -22,6 +22,8 @@ import connections
 import damages
 import endings
 import files
+import flips
+import greatest
 import leaving
 import openings
 import pauses

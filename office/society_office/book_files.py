@@ -8,7 +8,8 @@ import sys
 import time
 from collections.abc import Callable, Iterator
 
-from society_office import book_log
+from society_office import book_log, page_sums
+from society_office.copy import is_in_use
 from society_office.errors import OfficeError
 
 PROCESSES = pathlib.Path("/proc")
@@ -18,6 +19,8 @@ USAGE = """usage: python3 -m society_office.book_files check DATABASE
        python3 -m society_office.book_files log LOG
        python3 -m society_office.book_files join DATABASE LOG TARGET
        python3 -m society_office.book_files write-log DATABASE TARGET
+       python3 -m society_office.book_files with-sums DATABASE TARGET
+       python3 -m society_office.book_files resum DATABASE
        python3 -m society_office.book_files office DATABASE"""
 
 
@@ -89,6 +92,15 @@ def office_words(database: pathlib.Path) -> list[str]:
     return ["--society", str(society), "--territory", str(territory), f"--name={name}"]
 
 
+def resum(database: pathlib.Path) -> None:
+    """Sums the pages of a file anew, into which sqlite3 has written; an OfficeError where it has no sums, or an office has it open."""
+    if is_in_use(database):
+        raise OfficeError(f"{database} is in use: stop the office first")
+    if not page_sums.has_sums(database):
+        raise OfficeError(f"{database} has no sums")
+    page_sums.resum(database)
+
+
 def refuse(fault: str) -> None:
     """An OfficeError where there is a fault."""
     if fault:
@@ -100,6 +112,8 @@ COMMANDS: dict[str, tuple[int, Callable[..., object]]] = {
     "log": (1, lambda log: refuse(book_log.fault_of_log(log))),
     "join": (3, book_log.join),
     "write-log": (2, book_log.write_log),
+    "with-sums": (2, page_sums.write_with_sums),
+    "resum": (1, resum),
     "office": (1, lambda database: print("\n".join(office_words(database)))),
 }
 

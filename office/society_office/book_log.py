@@ -17,6 +17,8 @@ HEADER, FRAME_HEADER = 32, 24
 # The first word of a log, whose last bit tells the order of the bytes in the words that are summed; the format's version.
 MAGIC, FORMAT = 0x377F_0682, 3_007_000
 WORD = 0xFFFF_FFFF
+# What a database begins with.
+DATABASE = b"SQLite format 3\0"
 # How often a log that is written meanwhile is read.
 TRIES = 6
 Sums = tuple[int, int]
@@ -155,25 +157,36 @@ def join(database: pathlib.Path, log: pathlib.Path, target: pathlib.Path) -> Non
         file.truncate(count * read.page_size)
 
 
+def page_size_and_count(database: pathlib.Path) -> tuple[int, int]:
+    """The bytes of a page of a file, and how many pages it has; an OfficeError where it is no whole database."""
+    with database.open("rb") as file:
+        start, size = file.read(100), os.fstat(file.fileno()).st_size
+    page_size = int.from_bytes(start[16:18], "big")
+    page_size = 65_536 if page_size == 1 else page_size
+    if not start.startswith(DATABASE) or page_size < 512 or size % page_size:
+        raise OfficeError(f"{database} is no whole SQLite database")
+    return page_size, size // page_size
+
+
+def pages(database: pathlib.Path) -> Iterator[tuple[int, bytes]]:
+    """Each page of a whole file, behind its number."""
+    page_size, count = page_size_and_count(database)
+    with database.open("rb") as file:
+        for number in range(1, count + 1):
+            yield number, file.read(page_size)
+
+
 def write_log(database: pathlib.Path, target: pathlib.Path) -> None:
     """Writes a log that has each page of a file, so that beside any other file it is read as this one."""
-    with database.open("rb") as file:
-        start = file.read(100)
-        page_size = int.from_bytes(start[16:18], "big")
-        page_size = 65_536 if page_size == 1 else page_size
-        size = os.fstat(file.fileno()).st_size
-        if not start.startswith(b"SQLite format 3\0") or page_size < 512 or size % page_size:
-            raise OfficeError(f"{database} is no whole SQLite database")
-        file.seek(0)
-        with target.open("xb") as log:
-            salts = b"\1\0\0\0" + os.urandom(4)
-            head = struct.pack(">4I", MAGIC | (sys.byteorder == "big"), FORMAT, page_size, 0) + salts
-            sums = summed(array.array("I", head), (0, 0))
-            log.write(head + struct.pack(">2I", *sums))
-            count = size // page_size
-            for page in range(1, count + 1):
-                head, content = struct.pack(">2I", page, count if page == count else 0), file.read(page_size)
-                sums = summed(array.array("I", head + content), sums)
-                log.write(head + salts + struct.pack(">2I", *sums) + content)
-            log.flush()
-            os.fsync(log.fileno())
+    page_size, count = page_size_and_count(database)
+    with target.open("xb") as log:
+        salts = b"\1\0\0\0" + os.urandom(4)
+        head = struct.pack(">4I", MAGIC | (sys.byteorder == "big"), FORMAT, page_size, 0) + salts
+        sums = summed(array.array("I", head), (0, 0))
+        log.write(head + struct.pack(">2I", *sums))
+        for page, content in pages(database):
+            head = struct.pack(">2I", page, count if page == count else 0)
+            sums = summed(array.array("I", head + content), sums)
+            log.write(head + salts + struct.pack(">2I", *sums) + content)
+        log.flush()
+        os.fsync(log.fileno())

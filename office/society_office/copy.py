@@ -12,10 +12,10 @@ import tempfile
 from collections.abc import Iterator
 from typing import Any
 
+from society_office import book_log
 from society_office.errors import OfficeError
 from society_office.numbering import Line
 
-MAGIC = b"SQLite format 3\0"
 BOOK = {"office", "transmissions", "returns", "pools", "pool_cuts", "pool_returns"}
 DERIVED = {"fronts", "verdicts", "versions", "recordings", "credits", "balances"}
 LATER = {"segment_ends", "mechanical_pools"}
@@ -42,6 +42,11 @@ class Copy:
         """The options of the program that name this office."""
         return ["--society", str(self.society), "--territory", str(self.territory), f"--name={self.name}"]
 
+    @property
+    def file(self) -> pathlib.Path:
+        """The file that is read: that of the copy, or where a log stands beside it, a throw-away one with its log."""
+        return pathlib.Path(self.row("PRAGMA database_list")[2])
+
     def rows(self, question: str, *values: Any) -> Iterator[Any]:
         """The rows that answer a question, one after another."""
         try:
@@ -58,7 +63,7 @@ class Copy:
 
     def asked_beside(self, threads: concurrent.futures.Executor, question: str, *values: Any) -> concurrent.futures.Future[list[Any]]:
         """The rows that answer a question over a connection of its own, while this one goes on."""
-        file = pathlib.Path(self.row("PRAGMA database_list")[2])
+        file = self.file
 
         def ask() -> list[Any]:
             with contextlib.closing(sqlite3.connect(f"{file.as_uri()}?mode=ro", uri=True)) as database:
@@ -118,9 +123,8 @@ class Copy:
         return next((it for it in self.lines() if it.sender == sender), None)
 
     def save(self, target: pathlib.Path) -> None:
-        """Writes what the copy holds into a file of its own."""
-        with contextlib.closing(sqlite3.connect(target)) as database:
-            self.database.backup(database)
+        """Writes what the copy holds into a file of its own, each page as it is: sqlite3's own backup writes no sum of the first one."""
+        book_log.join(self.file, self.file.with_name(self.file.name + "-wal"), target)
 
     def body(self, sender: str, number: int) -> bytes:
         """A file's bytes."""
@@ -184,12 +188,12 @@ def refuse_another(path: pathlib.Path) -> None:
         raise OfficeError(f"{path} is no file")
     try:
         with path.open("rb") as file:
-            start = file.read(len(MAGIC))
+            start = file.read(len(book_log.DATABASE))
         if is_in_use(path):
             raise OfficeError(f"{path} is in use: it is no copy, but the file of an office that runs")
     except PermissionError as error:
         raise OfficeError(f"{path} may not be read by this user") from error
-    if start and start != MAGIC:
+    if start and start != book_log.DATABASE:
         raise OfficeError(f"{path} is no SQLite database")
     journal = path.with_name(path.name + "-journal")
     if journal.exists() and journal.stat().st_size:
@@ -199,7 +203,7 @@ def refuse_another(path: pathlib.Path) -> None:
 def refuse_foreign_log(path: pathlib.Path, log: pathlib.Path, joined: sqlite3.Connection) -> None:
     """An OfficeError where the log is not of the file: what both come to is no sound file that has all that the file alone has."""
     why = f"{log} is not of {path}: "
-    cure = ". Take both files of one moment, or the one file that `.backup` of sqlite3 writes"
+    cure = ". Take both files of one moment, or the one file that society-backup makes"
     try:
         if (fault := joined.execute("PRAGMA integrity_check(1)").fetchone()[0]) != "ok":
             raise OfficeError(f"{why}both together are no sound file ({fault.splitlines()[-1]}){cure}")

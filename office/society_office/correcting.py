@@ -10,11 +10,10 @@ import csv
 import dataclasses
 import io
 import pathlib
-import sqlite3
 import tempfile
 from collections.abc import Iterator, Mapping, Sequence
 
-from society_office import faults
+from society_office import faults, page_sums
 from society_office.copy import Copy
 from society_office.crediting import Credits, Holdings, by_account, choose
 from society_office.errors import OfficeError
@@ -116,11 +115,10 @@ def office_without(program: str, copy: Copy, pools: set[int]) -> Iterator[Trial]
     with tempfile.TemporaryDirectory(prefix="society-office-") as folder:
         database = pathlib.Path(folder) / "without.db"
         copy.save(database)
-        with contextlib.closing(sqlite3.connect(database)) as opened:
+        with page_sums.changed(database) as opened:
             for table in OF_A_POOL if copy.layout >= 3 else OF_A_POOL[1:]:
                 opened.executemany(f"DELETE FROM {table} WHERE pool = ?", ((it,) for it in pools))
             opened.executescript(SUMS)
-            opened.commit()
         with trial_office(program, copy.office_words, database) as trial:
             yield trial
 

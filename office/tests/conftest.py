@@ -5,7 +5,6 @@ import http.client
 import os
 import pathlib
 import shutil
-import sqlite3
 import subprocess
 import sys
 import tempfile
@@ -19,6 +18,7 @@ sys.path[:0] = [str(HERE), str(HERE.parent)]
 
 import quarter  # noqa: E402 (the folder of the tests comes first)
 from office_value import Office  # noqa: E402
+from society_office import book_files, book_log  # noqa: E402
 
 OFFICE = ["--society", "900", "--territory", "40", "--name", "EXAMPLE SOCIETY"]
 TAKEN = {200, 201, 202}
@@ -94,8 +94,7 @@ def further(program: str, copy: pathlib.Path, requests: list[tuple[str, bytes]],
 
 def backed_up(source: pathlib.Path, target: pathlib.Path) -> pathlib.Path:
     """A copy of an office's file, as its one file."""
-    with contextlib.closing(sqlite3.connect(source)) as office, contextlib.closing(sqlite3.connect(target)) as copy:
-        office.backup(copy)
+    book_log.join(source, book_files.log_of(source), target)
     return target
 
 

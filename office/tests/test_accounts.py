@@ -17,10 +17,11 @@ import reckoning
 from answers import balances_by_pool, check_balances, check_explained, check_stored
 from office_value import return_body
 from society_office.errors import OfficeError
+from society_office.page_sums import changed
 from society_office.pool_names import pool_names
 from society_office.splitting import split
 from society_office.statements import folder_of
-from test_statements import changed, run
+from test_statements import run
 
 POOL_NAMES = "\ufeff# Our pools\n1  2026-01-01/2026-03-31 First quarter\r\n3 2026-04-01/2026-06-30 Second quarter, radio  # and no TV\n\n"
 OFFICE = quarter.OFFICE
@@ -53,6 +54,13 @@ def test_an_explanation_in_words(copy: pathlib.Path, tmp_path: pathlib.Path) -> 
     assert "2 works of the cut name it: A3 of PB000000012, D1 of PB000000078" in run("explain", copy, "UNCLAIMED", "--pool", 1)
     run("explain", copy, "I00000000295", "--pool", 1, "--output", tmp_path / "it.txt")
     assert "ANNA WRITER" in (tmp_path / "it.txt").read_text()
+
+
+def test_the_name_of_an_explained_pool_is_no_formula(copy: pathlib.Path) -> None:
+    for name, cell in (("First quarter", "First quarter"), ("=1+1", "'=1+1")):
+        copy.with_name("pools.txt").write_text(f"1 2026-01-01/2026-03-31 {name}\n")
+        rows = list(csv.DictReader(io.StringIO(run("explain", copy, "I00000000295", "--pool", 1, "--format", "csv"))))
+        assert {(it["pool_name"], it["first_day"], it["last_day"]) for it in rows} == {(cell, "2026-01-01", "2026-03-31")}
 
 
 @pytest.mark.parametrize(
@@ -111,6 +119,7 @@ def test_names_of_pools_stand_on_statements_and_pages(copy: pathlib.Path, tmp_pa
         assert "Second quarter, radio" in (tmp_path / "site" / name).read_text()
     run("statement", copy, "--all", "--into", tmp_path / "all")
     assert "<td>First quarter</td>" in (tmp_path / "all/I00000000295/index.html").read_text()
+    assert ",First quarter,2026-01-01,2026-03-31\n" in (tmp_path / "all/I00000000295/statement.csv").read_text()
 
 
 def postings(journal: str) -> Iterator[tuple[str, int]]:

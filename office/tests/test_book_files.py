@@ -155,6 +155,6 @@ def test_a_log_beside_any_file_is_read_as_its_own(copy: pathlib.Path, tmp_path: 
 @pytest.mark.parametrize("words, status", [(["check"], 2), ([], 2), (["office", "none"], 1), (["log", "none-wal"], 0)])
 def test_words_for_scripts(words: list[str], status: int, capsys: pytest.CaptureFixture[str]) -> None:
     assert book_files.main(words) == status
-    assert capsys.readouterr().err.count("\n") == (1 if status == 1 else 5 if status == 2 else 0)
+    assert capsys.readouterr().err.count("\n") == (1 if status == 1 else 7 if status == 2 else 0)
     with contextlib.suppress(FileNotFoundError):
         pathlib.Path("none").unlink()

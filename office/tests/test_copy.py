@@ -11,9 +11,10 @@ import reckoning
 from conftest import ROOT, running, served
 from society_office.copy import open_copy
 from society_office.errors import OfficeError
+from society_office.page_sums import changed
 from society_office.program import Office, free_port
 from society_office.statements import Statements
-from test_statements import changed, run
+from test_statements import run
 
 DERIVED = "".join(f"DROP TABLE {it};" for it in ("fronts", "verdicts", "versions", "recordings", "credits", "balances"))
 

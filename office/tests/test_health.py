@@ -13,8 +13,9 @@ import quarter
 from conftest import running
 from society_office import health
 from society_office.health import GOOD, WARNING, WRONG, Limits, Looked
+from society_office.page_sums import changed
 from society_office.program import free_port
-from test_statements import changed, run
+from test_statements import run
 
 HOUR, MONTH = 3_600, 30 * 86_400
 

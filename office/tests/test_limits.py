@@ -7,7 +7,8 @@ import pytest
 from click.testing import CliRunner
 from society_office import orders
 from society_office.cli import main
-from test_statements import changed, run
+from society_office.page_sums import changed
+from test_statements import run
 
 
 def test_an_order_names_no_more_returns_than_it_may(copy: pathlib.Path) -> None:

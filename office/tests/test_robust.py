@@ -12,10 +12,11 @@ from conftest import ROOT, made, running
 from office_value import File, Step
 from society_office.copy import open_copy
 from society_office.errors import OfficeError
+from society_office.page_sums import changed
 from society_office.program import Office, free_port
 from society_office.soundness import need_sound
 from test_checks import FIRST
-from test_statements import changed, run
+from test_statements import run
 
 COMMAND = [sys.executable, str(ROOT / "office/society-office")]
 

@@ -20,9 +20,10 @@ from society_office import comparing, program, resending
 from society_office.asking import ON_ONE_CONNECTION, Connections, Request, access_by_netrc
 from society_office.copy import open_copy
 from society_office.errors import OfficeError
+from society_office.page_sums import changed
 from society_office.program import free_port
 from test_copy import DERIVED
-from test_statements import changed, run
+from test_statements import run
 
 ROUNDS = range(8)
 REFUSED = {404, 409}

@@ -1,9 +1,8 @@
 //! What the program asks of the machine for a database: a file that holds one.
 ghost use Rattle.std.specs.Prelude.{Bool, IfErr, IfOk, List, ℕ};
-ghost use Rattle.sqlite.specs.Files.{file_state};
-ghost use Rattle.sqlite.specs.Held.{IsNew};
-ghost use Rattle.sqlite.specs.State as connection;
+ghost use Rattle.sqlite.specs.Held.{Held, IsNew};
 ghost use Rattle.sqlite_disk.specs.declared.Disk.{Ghosts};
+ghost use Rattle.sqlite_store.specs.declared.store.FileStore.{FileStore as Kept};
 ghost use Rattle.society_commands.specs.declared.left.Left.{Left as Rest};
 ghost use Rattle.society_opening.specs.declared.open_fault.OpenFault.{OpenFault as Fault};
 
@@ -20,8 +19,8 @@ pub trait OpenDatabase {
     /// What a look at a path may tell: whether a database is there.
     ghost may_find: { List ℕ → Bool → Type 0 };
 
-    /// What a connection may show that was opened at a path.
-    ghost may_open: { List ℕ → connection.State → Type 0 };
+    /// What a connection may be that was opened at a path.
+    ghost may_open: { (g : Ghosts Self.File) → List ℕ → Held (Kept Self.File g) → Type 0 };
 
     /// Why a look at a path may fail.
     ghost may_fail: { List ℕ → Fault → Type 0 };
@@ -43,7 +42,7 @@ pub trait OpenDatabase {
     ) -> Result<Connection<FileStore<Self::File>>, (OpenFault, Left<Self::File, Self>)>
     where
         Self: Sized,
-        ensures opened { IfOk result (λ c. may_open path.now (file_state c)) }
+        ensures opened { IfOk result (may_open Self.File.Disk path.now) }
         ensures new { IfOk result IsNew }
         ensures refused { IfErr result (λ e. may_refuse Self.File.Disk path.now e.0 e.1) };
 }

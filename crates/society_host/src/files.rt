@@ -18,6 +18,9 @@ const HEADER: &[u8] = b"SQLite format 3\0";
 /// Bytes of a log that holds no page: it is cut to so many when it was copied.
 const EMPTY_LOG: u64 = 41;
 
+/// That each page of a new file has its sum (SQLite's cksumvfs): a bit that changed in the file is found when it is opened.
+const NEW_HAS_SUMS: bool = true;
+
 /// Who may read and write a new file: its owner alone.
 const OWN: u32 = 0o600;
 
@@ -48,7 +51,7 @@ impl<'a, S: Start> OpenDatabase for HostFiles<'a, S> {
     ghost may_find = { λ path found. Unit {0} };
 
     // Nor to bytes: `S` stands for those of the file that is opened.
-    ghost may_open = { λ path s. IsFoundIn (image_at S.Start) s };
+    ghost may_open = { λ g path c. IsFoundIn (image_at S.Start) c };
 
     ghost may_fail = { λ path fault. IsToldOfNone fault };
 
@@ -74,7 +77,7 @@ impl<'a, S: Start> OpenDatabase for HostFiles<'a, S> {
         let Some(found) = self.found else {
             return Err((OpenFault::Store, Left::Unopened(used)));
         };
-        match Connection::open_from(runtime, path, false, found) {
+        match Connection::open_from(runtime, path, NEW_HAS_SUMS, found) {
             Ok(connection) => {
                 guard(runtime, path, was_there);
                 Ok(connection)
