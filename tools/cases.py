@@ -8,7 +8,7 @@
 Run it anywhere in the repository. A value is a number or a text in a file of tests: a module that the root of its crate names
 under cfg(test), and the library of sample bodies; a script of trials/ is one too, and each trial a test. "a" and b"a" are one value, and a
 text of five bytes or more is not listed where it stands within another of AFTER. The data of the program of rows counts too: each row and
-each folder of rows is a test by its name, each file is a text, and so is each number in one. So do the files of the program of cases: each
+each folder of rows is a test by its name, each file is a text, and so is each number in one. So do the files of the programs of cases: each
 group is a test by its name, and each line, body, word and number is a value. A test is not listed as lacking where AFTER has a row of its
 name, in a file or in a table of a test. A value that stands fewer times need not be a case that was dropped, since several tests may share
 one table or one sample: read the list.
@@ -21,7 +21,7 @@ import sys
 
 LIBRARY_OF_BODIES = "test_bodies"
 PROGRAM_OF_ROWS = "test_rows"
-PROGRAM_OF_CASES = "test_cases"
+PROGRAMS_OF_CASES = ("test_cases", "test_desk")
 TRIALS = "trials"
 TOKEN = re.compile(
     r"""(?P<comment>//[^\n]*)
@@ -154,18 +154,19 @@ class Cases:
     def add_sheets(self, revision, names):
         """Adds the files of cases, and the files that they take."""
         for name in names:
-            sheet = re.fullmatch(rf"crates/{PROGRAM_OF_CASES}/data/(\w+)\.(\w+)", name)
+            sheet = re.fullmatch(rf"crates/({'|'.join(PROGRAMS_OF_CASES)})/data/(\w+)\.(\w+)", name)
             if not sheet:
                 continue
+            crate, word, ending = sheet.groups()
             data = git_bytes("show", f"{revision}:{name}")
-            if sheet[2] != "cases":
+            if ending != "cases":
                 self.values.update([data])
                 continue
             text = data.decode()
             groups, found = re.findall(r"^== (\w+)$", text, re.M), list(case_values(text))
-            self.tests += [(PROGRAM_OF_CASES, sheet[1], group) for group in groups]
+            self.tests += [(crate, word, group) for group in groups]
             self.values.update(found)
-            self.counts[PROGRAM_OF_CASES].update(tests=len(groups), values=len(found))
+            self.counts[crate].update(tests=len(groups), values=len(found))
 
 
 def print_counts(cases):

@@ -1,25 +1,46 @@
-//! The office stops at each call of a file in turn, and what is left then is opened and asked: what was answered is there, and the request under
-//! way is there whole or not at all.
-use crate::fused::{File, Fused, Image, ask, files_of, synced, written};
-use crate::requests::{Request, Told};
+//! The office stops at each call of a file in turn, and what is left then is opened and asked: it answers as the run without a stop does,
+//! behind the requests that were answered, or behind the one that was under way too.
+use crate::asking::{Answers, are_same, ask};
+use crate::course::Course;
+use crate::files::{Counting, Fused, Image, changed, files_of, synced, written};
+use crate::run::{Run, asked};
+use share_rules::Office;
 use sqlite::Files;
-use std::alloc::{AllocError, Global};
-use std::test::Fail;
+use std::alloc::Global;
+use std::io;
 
-/// More calls than an opening or a request here makes of a file.
-const MOST_CALLS: u64 = 1_024;
+/// More calls than a stretch here makes of a file.
+const MOST_CALLS: u64 = 4_096;
 
-/// What stops left, and whether the request under way was there at one of them, and not there at another.
+/// What makes layout 2 of layout 3.
+const SECOND: &str =
+    "DROP TABLE mechanical_pools; DROP TABLE segment_ends; UPDATE office SET layout = 2";
+
+/// What makes layout 1 of layout 3.
+const FIRST: &str =
+    "DROP TABLE mechanical_pools; DROP TABLE segment_ends; DROP TABLE balances; DROP TABLE credits; DROP TABLE recordings; DROP TABLE versions; DROP TABLE verdicts; DROP TABLE fronts; UPDATE office SET layout = 1";
+
+/// A stretch of a course: the files before it, and from which request to which it goes, counted from 0.
+#[derive(Clone, Copy)]
+struct Stretch<'a> {
+    course: &'a Course,
+    run: &'a Run,
+    start: &'a Image,
+    from: usize,
+    to: usize,
+}
+
+/// What stops of a stretch left, and whether the request under way was there at one of them, and not there at another.
 #[derive(Drop)]
-pub struct Seen {
+struct Seen {
     left: Vec<Image>,
-    pub kept: bool,
-    pub lost: bool,
+    kept: bool,
+    lost: bool,
 }
 
 impl Seen {
     /// No stop is seen.
-    pub fn new(alloc: Global) -> Seen {
+    fn new(alloc: Global) -> Seen {
         Seen {
             left: Vec::new(alloc),
             kept: false,
@@ -29,180 +50,213 @@ impl Seen {
 
     /// Whether a stop left the same.
     fn has(&self, image: &Image) -> bool {
-        for other in &self.left {
-            if image.is_same(other) {
-                return true;
-            }
-        }
-        false
+        self.left.iter().any(|other| image.is_same(other))
     }
-}
 
-/// Where a run stopped: how many of its requests were answered, and whether the next one was under way.
-#[derive(Clone, Copy)]
-struct Stop<'a> {
-    course: &'a [Request],
-    answered: usize,
-    is_under_way: bool,
-}
-
-/// What is asked of what a stop left: what was answered, but for refusals, since that may be taken now, and all that comes after; and how many
-/// were answered.
-fn asked_after(alloc: Global, stop: &Stop<'_>) -> Result<(Vec<Request>, usize), AllocError> {
-    let mut requests = Vec::new(alloc);
-    let mut known = 0;
-    for (index, request) in stop.course.iter().enumerate() {
-        if index >= stop.answered {
-            requests.push(*request)?;
-        } else if !request.1.is_refusal() {
-            requests.push(*request)?;
-            known = requests.len();
+    /// What was seen, in words.
+    fn words(&self) -> &'static str {
+        match (self.kept, self.lost) {
+            (true, true) => "kept and lost",
+            (true, false) => "kept",
+            (false, true) => "lost",
+            (false, false) => "nothing",
         }
     }
-    Ok((requests, known))
 }
 
-/// Whether the request under way was kept; an answer that is not as wanted is an error.
-fn is_kept(
-    told: &[Told],
-    requests: &[Request],
-    known: usize,
-    is_under_way: bool,
-) -> Result<bool, Fail> {
-    if told.len() != requests.len() {
-        return Err(Fail::new("a store that does not fail"));
-    }
-    let mut kept = false;
-    for (index, (answer, (_, wanted))) in told.iter().zip(requests.iter()).enumerate() {
-        if index < known {
-            if !answer.is_known() {
-                return Err(Fail::new("what was answered"));
-            }
-        } else if *answer != *wanted {
-            if index != known || !is_under_way || *answer != wanted.again() {
-                return Err(Fail::new("the answer of a run without a stop"));
-            }
-            kept = true;
-        }
-    }
-    Ok(kept)
-}
-
-/// Opens and asks what a stop left, and notes whether the request under way was kept. What was seen before would be answered the same again.
-fn look(alloc: Global, stop: &Stop<'_>, image: Image, seen: &mut Seen) -> Result<(), Fail> {
-    if seen.has(&image) {
-        return Ok(());
-    }
-    let (requests, known) = asked_after(alloc, stop)?;
-    let files = files_of(alloc, &image, File::Log, u64::MAX)?;
-    let (told, _) = ask(alloc, files, requests.as_slice())?;
-    let told = told.ok_or("files that open")?;
-    if is_kept(
-        told.as_slice(),
-        requests.as_slice(),
-        known,
-        stop.is_under_way,
-    )? {
-        seen.kept = true;
-    } else {
-        seen.lost = true;
-    }
-    seen.left.push(image)?;
-    Ok(())
-}
-
-/// Looks at what a stop of the process leaves, and at what one of the machine does.
-fn look_at_both(
-    alloc: Global,
-    stop: &Stop<'_>,
-    files: Files<Fused>,
-    seen: &mut Seen,
-) -> Result<(), Fail> {
-    look(alloc, stop, written(alloc, &files)?, seen)?;
-    look(alloc, stop, synced(alloc, files)?, seen)
-}
-
-/// Stops an opening of files at each call of one of them in turn, and sends a course to what is left.
-pub fn check_opening(
-    alloc: Global,
-    start: &Image,
-    course: &[Request],
-    file: File,
-) -> Result<(), Fail> {
-    let stop = Stop {
-        course,
-        answered: 0,
-        is_under_way: false,
-    };
-    let mut seen = Seen::new(alloc);
-    for passing in 0..MOST_CALLS {
-        let (told, files) = ask(alloc, files_of(alloc, start, file, passing)?, &[])?;
-        if told.is_some() {
-            return Ok(());
-        }
-        look_at_both(alloc, &stop, files, &mut seen)?;
-    }
-    Err(Fail::new("an opening without a stop"))
-}
-
-/// What the first requests of a course leave of an office to which nothing has come, in one run without a stop.
-pub fn left_by(alloc: Global, course: &[Request], answered: usize) -> Result<Image, Fail> {
-    let requests = course.get(..answered).ok_or("requests")?;
-    let files = files_of(alloc, &Image::empty(alloc), File::Log, u64::MAX)?;
-    let (told, files) = ask(alloc, files, requests)?;
-    let told = told.ok_or("a new office")?;
-    if is_kept(told.as_slice(), requests, 0, false)? {
-        return Err(Fail::new("nothing under way"));
-    }
-    written(alloc, &files)
-}
-
-/// How many calls of a file an opening makes, found by halves.
-fn calls_of_opening(alloc: Global, start: &Image, file: File) -> Result<u64, Fail> {
-    let mut least = 0u64;
-    let mut most = MOST_CALLS;
-    for _ in 0..10 {
-        let middle = least.saturating_add(most.saturating_sub(least) / 2);
-        let (told, _) = ask(alloc, files_of(alloc, start, file, middle)?, &[])?;
-        if told.is_some() {
-            most = middle;
+impl Stretch<'_> {
+    /// What the run without a stop answers to these requests, over what it left behind so many.
+    fn wanted(
+        &self,
+        alloc: Global,
+        office: &Office,
+        count: usize,
+        list: &[&[u8]],
+    ) -> Option<Answers> {
+        let image = if count == self.from {
+            self.start
         } else {
-            least = middle;
+            self.run.left.get(count)?
+        };
+        let (told, _) = asked(alloc, office, image, list)?;
+        Some(told)
+    }
+
+    /// Whether what a stop left, behind so many answers, answers as it should.
+    fn look(
+        &self,
+        alloc: Global,
+        office: &Office,
+        count: usize,
+        image: Image,
+        seen: &mut Seen,
+    ) -> Option<bool> {
+        if seen.has(&image) {
+            return Some(true);
+        }
+        let list = self.run.behind(alloc, self.course, count)?;
+        let (told, _) = asked(alloc, office, &image, list.as_slice())?;
+        seen.left.push(image).ok()?;
+        let before = self.wanted(alloc, office, count, list.as_slice())?;
+        if are_same(told.as_slice(), before.as_slice()) {
+            seen.lost = true;
+            return Some(true);
+        }
+        if count >= self.to {
+            return Some(false);
+        }
+        let after = self.wanted(alloc, office, count.saturating_add(1), list.as_slice())?;
+        seen.kept = true;
+        Some(are_same(told.as_slice(), after.as_slice()))
+    }
+
+    /// The same of what a stop of the process leaves, and of what one of the machine does.
+    fn look_at_both(
+        &self,
+        alloc: Global,
+        office: &Office,
+        count: usize,
+        files: Files<Fused>,
+        seen: &mut Seen,
+    ) -> Option<bool> {
+        let image = written(alloc, &files)?;
+        let well = self.look(alloc, office, count, image, seen)?;
+        let image = synced(alloc, files)?;
+        Some(well && self.look(alloc, office, count, image, seen)?)
+    }
+
+    /// Whether these are the answers of the run without a stop.
+    fn are_answers(&self, told: &[Vec<u8>]) -> bool {
+        let end = self.from.saturating_add(told.len());
+        match self.run.answers.get(self.from..end) {
+            Some(wanted) => are_same(told, wanted),
+            None => false,
         }
     }
-    Ok(most)
+
+    /// One run that stops behind so many calls of a file: whether it came to its end, where all is as it should be.
+    fn stop(
+        &self,
+        alloc: Global,
+        office: &Office,
+        requests: &[&[u8]],
+        file: Counting,
+        passing: u64,
+        seen: &mut Seen,
+    ) -> Option<Option<bool>> {
+        let files = files_of(alloc, self.start, file, passing)?;
+        let (told, files) = ask(alloc, office, files, requests)?;
+        let (opened, told) = match told {
+            Some(told) => (true, told),
+            None => (false, Vec::new(alloc)),
+        };
+        let count = self.from.saturating_add(told.len());
+        let well = self.are_answers(told.as_slice())
+            && self.look_at_both(alloc, office, count, files, seen)?;
+        if !well {
+            return Some(None);
+        }
+        Some(Some(opened && count >= self.to))
+    }
+
+    /// The requests of the stretch.
+    fn requests(&self, alloc: Global) -> Option<Vec<&[u8]>> {
+        let mut list = Vec::new(alloc);
+        for request in self.course.requests.get(self.from..self.to)? {
+            list.push(request.as_slice()).ok()?;
+        }
+        Some(list)
+    }
+
+    /// Stops at each call of a file in turn, up to the one run that comes to its end: what was seen, or behind how many calls something was
+    /// not as it should be.
+    fn stops(&self, alloc: Global, office: &Office, file: Counting) -> Option<Result<Seen, u64>> {
+        let requests = self.requests(alloc)?;
+        let mut seen = Seen::new(alloc);
+        for passing in 0..MOST_CALLS {
+            let ended = self.stop(alloc, office, requests.as_slice(), file, passing, &mut seen)?;
+            match ended {
+                None => return Some(Err(passing)),
+                Some(true) => return Some(Ok(seen)),
+                Some(false) => {}
+            }
+        }
+        None
+    }
+
+    /// Prints what stops of a file came to.
+    fn tell(&self, rt: &HostRuntime, office: &Office, file: Counting) -> io::Result<()> {
+        let name = file.name();
+        match self.stops(rt.alloc(), office, file) {
+            Some(Ok(seen)) => {
+                let words = seen.words();
+                println!(rt; "  in the {name}: {words}, as wanted")
+            }
+            Some(Err(calls)) => println!(rt; "  in the {name}: not as wanted behind {calls} calls"),
+            None => println!(rt; "  in the {name}: not tried"),
+        }
+    }
 }
 
-/// Stops a request of a course at each call of a file in turn, up to where it is answered, and sends the whole course to what is left.
-///
-/// The course is one: the files are those that the run without a stop has before this request, and it and all later ones are asked over what the
-/// stop leaves. Only the office is opened again before the request, which spares the run up to it at each stop.
-pub fn check_request(
-    alloc: Global,
-    course: &[Request],
-    answered: usize,
-    file: File,
-    seen: &mut Seen,
-) -> Result<(), Fail> {
-    let request = *course.get(answered).ok_or("a request")?;
-    let start = left_by(alloc, course, answered)?;
-    let mut stop = Stop {
-        course,
-        answered,
-        is_under_way: true,
-    };
-    for passing in calls_of_opening(alloc, &start, file)?..MOST_CALLS {
-        let files = files_of(alloc, &start, file, passing)?;
-        let (told, files) = ask(alloc, files, &[request])?;
-        if let Some(answer) = told.ok_or("files that open")?.first() {
-            if *answer != request.1 {
-                return Err(Fail::new("the answer of a run without a stop"));
-            }
-            stop.answered = answered.saturating_add(1);
-            stop.is_under_way = false;
-            return look_at_both(alloc, &stop, files, &mut Seen::new(alloc));
-        }
-        look_at_both(alloc, &stop, files, seen)?;
+/// From which request to which a stretch goes, as two words count from 1; none for an opening.
+fn stretch_in(word: &str, rest: &str, count: usize) -> Option<(usize, usize)> {
+    if word == "opens" {
+        let at = if rest == "new" { 0 } else { count };
+        return Some((at, at));
     }
-    Err(Fail::new("a request without a stop"))
+    let (first, last) = rest.split_once(' ')?;
+    let first = first.parse::<usize>().ok()?.checked_sub(1)?;
+    let last = last.parse::<usize>().ok()?;
+    if first <= last && last <= count {
+        Some((first, last))
+    } else {
+        None
+    }
+}
+
+/// The files before a stretch: those of the run, of the layout that an opening names.
+fn start_of(alloc: Global, run: &Run, rest: &str, from: usize) -> Option<Image> {
+    let image = run.left.get(from)?;
+    let statements = match rest {
+        "layout 1" => FIRST,
+        "layout 2" => SECOND,
+        "layout 3" => "",
+        _ => {
+            return Some(Image {
+                log: Vec::from_slice(alloc, image.log.as_slice()).ok()?,
+                db: Vec::from_slice(alloc, image.db.as_slice()).ok()?,
+            });
+        }
+    };
+    changed(alloc, image, statements)
+}
+
+/// Prints what stops come to in each file, in the stretch or the opening that a line names.
+pub fn tell_stops(
+    rt: &HostRuntime,
+    office: &Office,
+    course: &Course,
+    word: &str,
+    rest: &str,
+) -> io::Result<()> {
+    let alloc = rt.alloc();
+    println!(rt; " {word} {rest}")?;
+    let Some(run) = Run::of(alloc, office, course) else {
+        return println!(rt; "  the store fails");
+    };
+    let Some((from, to)) = stretch_in(word, rest, course.requests.len()) else {
+        return println!(rt; "  no such stretch");
+    };
+    let Some(start) = start_of(alloc, &run, rest, from) else {
+        return println!(rt; "  no such files");
+    };
+    let stretch = Stretch {
+        course,
+        run: &run,
+        start: &start,
+        from,
+        to,
+    };
+    stretch.tell(rt, office, Counting::Log)?;
+    stretch.tell(rt, office, Counting::Database)
 }
