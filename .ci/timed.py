@@ -5,9 +5,12 @@ whether release/society is the program that was built.
 
 A part is what a process of the prover works on: a proof, a crate's tests, its first edit (the seed, a whole proof from nothing), or one of
 the further edits, which go over what the seed kept. Processes are looked at twice a second, so what a process did in its last half second
-counts under 'other', as do rt itself, linking, and the tests and programs that are run. A run that is ended (SIGTERM) tells what it had done.
+counts under 'other', as do rt itself, linking, and the tests and programs that are run. A run that is ended (SIGTERM) ends all that it
+began, tells what it had done, and has the status 143.
 """
 import collections
+import contextlib
+import ctypes
 import os
 import pathlib
 import re
@@ -30,6 +33,9 @@ LAST_LINE = re.compile(r"(\d+) passed, (\d+) failed\s*")
 # `rt ci` tells of edits that it can't read or try, and passes; an edit that says nothing fails here.
 BAD_EDITS = re.compile(r"rt: note: bad must-fail edits, as told above: (\d+)\b")
 TICKS = os.sysconf("SC_CLK_TCK")
+# What a process asks for that is to have the children of those under it that end (prctl), and the status of a run that is ended.
+SET_CHILD_SUBREAPER = 36
+STATUS_ENDED = 128 + signal.SIGTERM
 
 
 def words_of(process):
@@ -42,13 +48,27 @@ def words_of(process):
 
 
 def state_of(process):
-    """The parent of a process, when it began, and the processor seconds of it and of the children that it waited for; none where it has ended."""
+    """The parent of a process, when it began, the processor seconds of it and of the children that it waited for, and its state in a letter, Z
+    where its parent has not waited for its end; none where it has ended."""
     try:
         with open(f"/proc/{process}/stat", encoding="utf-8", errors="replace") as file:
             fields = file.read().rpartition(")")[2].split()
     except OSError:
         return None
-    return fields[1], fields[19], sum(int(it) for it in fields[11:15]) / TICKS
+    return fields[1], fields[19], sum(int(it) for it in fields[11:15]) / TICKS, fields[0]
+
+
+def states():
+    """The state of each process."""
+    found = {process: state_of(process) for process in os.listdir("/proc") if process.isdigit()}
+    return {process: state for process, state in found.items() if state}
+
+
+def is_under_this(process, known):
+    """Whether a process is this one or was begun under it, by the states that are known."""
+    while process in known and process != str(os.getpid()):
+        process = known[process][0]
+    return process == str(os.getpid())
 
 
 def folder_of(process):
@@ -59,12 +79,35 @@ def folder_of(process):
         return ""
 
 
-class Stopped(Exception):
-    """The run was asked to end (SIGTERM)."""
+class Stopped(BaseException):
+    """The run was asked to end (SIGTERM). It is no `Exception`, which what is under way may take for one of its own."""
+
+
+def running_under_this():
+    """The processes under this one that have not ended, without Python's own, which clears away once its other processes have ended."""
+    known, own = states(), str(os.getpid())
+    under = [it for it, state in known.items() if it != own and state[3] != "Z" and is_under_this(it, known)]
+    return [it for it in under if "resource_tracker" not in str(words_of(it))]
+
+
+def end_all():
+    """Ends every process under this one, also those that are begun meanwhile."""
+    # (what a disk keeps from ending is not waited for longer than this)
+    for _ in range(100):
+        under = running_under_this()
+        if not under:
+            break
+        for it in under:
+            with contextlib.suppress(OSError):
+                os.kill(int(it), signal.SIGKILL)
+        time.sleep(0.1)
 
 
 def stop(_signal, _frame):
-    """Ends the run by an exception, so that what was measured is still told."""
+    """Ends the run by an exception, so that what was measured is still told. What it began is ended first, since it is waited for on the way."""
+    signal.signal(signal.SIGTERM, signal.SIG_IGN)
+    ctypes.CDLL(None).prctl(SET_CHILD_SUBREAPER, 1, 0, 0, 0)
+    end_all()
     raise Stopped
 
 
@@ -90,14 +133,10 @@ class Meter:
 
     def look(self):
         """Reads how far each process of the prover is."""
-        states = {process: state_of(process) for process in os.listdir("/proc") if process.isdigit()}
-        states = {process: state for process, state in states.items() if state}
-        for process, (parent, begun, seconds) in states.items():
-            above = process
-            while above in states and above != str(os.getpid()):
-                above = states[above][0]
+        known = states()
+        for process, (parent, begun, seconds, _) in known.items():
             # What the prover's own children do is counted with it once it has waited for them.
-            if above != str(os.getpid()) or (parent, states.get(parent, ("", ""))[1]) in self.spent:
+            if not is_under_this(process, known) or (parent, known.get(parent, ("", ""))[1]) in self.spent:
                 continue
             # (a number can be given to another process once the first has ended)
             key = process, begun
@@ -129,17 +168,13 @@ def passed_on(words):
     where there was none. Bad edits count as failed."""
     counts, bad = [], 0
     with subprocess.Popen(words, stdin=subprocess.DEVNULL, stdout=subprocess.PIPE, text=True, errors="replace") as ran:
-        try:
-            for line in ran.stdout:
-                last = LAST_LINE.fullmatch(line)
-                if last:
-                    counts = [int(it) for it in last.groups()]
-                else:
-                    bad += sum(int(it) for it in BAD_EDITS.findall(line))
-                    print(line, end="", flush=True)
-        except Stopped:
-            ran.terminate()
-            raise
+        for line in ran.stdout:
+            last = LAST_LINE.fullmatch(line)
+            if last:
+                counts = [int(it) for it in last.groups()]
+            else:
+                bad += sum(int(it) for it in BAD_EDITS.findall(line))
+                print(line, end="", flush=True)
     return ran.returncode, added(counts, (0, bad))
 
 
@@ -160,27 +195,33 @@ def added(counts, others):
     return [one + other for one, other in zip(counts, others)]
 
 
+def checked(words):
+    """The status of the run of `rt ci`, how many passed and failed of it and of all that is tried of the program then, and a line on the release.
+    A program that was not proved, or is not built, is neither tried nor compared."""
+    status, counts = passed_on(words)
+    if status != 0:
+        return status, counts, []
+    counts = added(counts, calls.checked(pathlib.Path(shutil.which("rt")).resolve().parent.parent))
+    counts = added(counts, trials.check(trials.builds()))
+    counts = added(counts, tools_checked(release.built_in(release.TOP)))
+    counts = added(counts, documents.check())
+    line, is_right = release.compared()
+    return status, added(counts, (0, int(not is_right))), [line]
+
+
 def main():
     release.unmark()
     signal.signal(signal.SIGTERM, stop)
-    meter, begun, begun_with = Meter(), time.monotonic(), release.made_from()
+    meter, begun, begun_with = Meter(), time.monotonic(), ""
     threading.Thread(target=meter.run, daemon=True).start()
-    told = []
     try:
-        status, counts = passed_on(sys.argv[1:])
+        begun_with = release.made_from()
+        status, counts, told = checked(sys.argv[1:])
+        signal.signal(signal.SIGTERM, signal.SIG_IGN)
     except Stopped:
-        print(*meter.table((time.monotonic() - begun) / 60), "stopped before its end: what it had done up to there", sep="\n", flush=True)
-        return 1
-    # A program that was not proved, or is not built, is neither tried nor compared.
-    if status == 0:
-        counts = added(counts, calls.checked(pathlib.Path(shutil.which("rt")).resolve().parent.parent))
-        counts = added(counts, trials.check(trials.builds()))
-        counts = added(counts, tools_checked(release.built_in(release.TOP)))
-        counts = added(counts, documents.check())
-        line, is_right = release.compared()
-        told, counts = [line], added(counts, (0, int(not is_right)))
+        status, counts, told = STATUS_ENDED, [], ["stopped before its end: what it had done up to there"]
     meter.ended.set()
-    print(*meter.table((time.monotonic() - begun) / 60), *told, sep="\n")
+    print(*meter.table((time.monotonic() - begun) / 60), *told, sep="\n", flush=True)
     if counts:
         print("{} passed, {} failed".format(*counts), flush=True)
     passed = status == 0 and counts[1:] == [0]

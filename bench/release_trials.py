@@ -1,15 +1,19 @@
 #!/usr/bin/env python3
-"""Tries what goes by release/: which program bin/society runs and what it says, when bin/release renews it, and how the gate compares.
+"""Tries what goes by release/: which program bin/society runs and what it says, when bin/release renews it, how the gate compares, and how it
+ends where it is ended.
 
 All of it happens in a copy of the checkout, with a toolchain that proves nothing and a program that does nothing. A line tells of each
 trial; the status is 1 where one is not as wanted. It takes some 8 processor seconds.
 """
 import argparse
+import os
 import pathlib
 import shutil
+import signal
 import subprocess
 import sys
 import tempfile
+import time
 
 from common import ROOT
 
@@ -21,11 +25,30 @@ case "$1" in
   run) mkdir -p out && cp {program} out/society && echo "rt: running" >&2 ;;
 esac
 """
-# Trials of the program, and tests of society-office, all as wanted.
+# Tests of society-office, the list of calls, and trials of the program, all as wanted.
 TOOLS = "#!/bin/sh\necho '3 passed in 0.01s'\n"
-TRIALS = "def builds():\n    return []\n\n\ndef check(programs):\n    return 34, 0\n"
+CALLS = "def checked(kit):\n    return 3, 0\n"
+TRIALS = "def builds():\n    return []\n\n\ndef check(programs):\n    return 31, 0\n"
 PROGRAM = "/bin/true"
 SOURCE, DEFINITION, PROOF = "crates/work_ids/src/lib.rt", "crates/work_ids/specs/Lib.antt", "crates/work_ids/proofs/Lib.antt"
+# What waits, and each part of the gate with a stand-in that does so.
+WAITS = "touch waits; sleep 60 & sleep 60"
+IN_PYTHON = """import concurrent.futures
+import pathlib
+import subprocess
+
+
+def {name}(*_):
+    with concurrent.futures.ThreadPoolExecutor() as both:
+        return list(both.map(lambda it: subprocess.run(it, shell=True), ["{waits}; touch went_on"] * 2))
+"""
+WAITING = {
+    "rt ci": ("stand_in", WAITS),
+    "the list of calls": (".ci/calls.py", IN_PYTHON.format(name="checked", waits=WAITS)),
+    "the trials": ("trials/run.py", TRIALS.partition("def check")[0] + IN_PYTHON.format(name="check", waits=WAITS)),
+    "the tests of society-office": ("office/check", f"#!/bin/sh\n{WAITS}"),
+}
+ENDED = "stopped before its end: what it had done up to there; nothing is left; what comes then is not begun"
 OTHERS = "the sources are others than those that release/society was made from"
 SAME = "release: release/society is the program that was built, byte for byte"
 
@@ -41,6 +64,7 @@ class Checkout:
                 (self.top / name).parent.mkdir(parents=True, exist_ok=True)
                 shutil.copy(ROOT / name, self.top / name)
         self.write("trials/run.py", TRIALS)
+        self.write(".ci/calls.py", CALLS)
         self.write("office/check", TOOLS)
         self.tools.mkdir()
         (self.tools / "rt").write_text(TOOLCHAIN.format(program=PROGRAM))
@@ -68,6 +92,24 @@ class Checkout:
         shutil.copy(PROGRAM, built)
         printed, status = self.run(sys.executable, ".ci/timed.py", "sh", "-c", f"echo '{ending}'; echo '{ending}' | grep -q ', 0 failed'")
         return printed.splitlines()[-2:], status
+
+    def ended(self, name, text):
+        """The gate's last line where it is ended while this file waits, with what is left of what it began, and its status."""
+        self.write("stand_in", "echo '5 passed, 0 failed'")
+        kept = (self.top / name).read_text()
+        self.write(name, text)
+        how = {"PATH": f"{self.tools}:/usr/bin:/bin", "LANG": "C.UTF-8"}
+        words = [sys.executable, ".ci/timed.py", "sh", "stand_in"]
+        with subprocess.Popen(words, cwd=self.top, env=how, stdout=subprocess.PIPE, stderr=subprocess.STDOUT, text=True) as ran:
+            while not (self.top / "waits").exists() and ran.poll() is None:
+                time.sleep(0.1)
+            ran.send_signal(signal.SIGTERM)
+            printed = ran.stdout.read()
+        self.write(name, kept)
+        (self.top / "waits").unlink(missing_ok=True)
+        left = [it.parent.name for it in pathlib.Path("/proc").glob("[0-9]*/cwd") if os.path.realpath(it) == str(self.top)]
+        seen = printed if "Traceback" in printed else printed.splitlines()[-1]
+        return f"{seen}; {left or 'nothing'} is left; what comes then is {'begun' * (self.top / 'went_on').exists() or 'not begun'}", ran.returncode
 
     def unbuild(self):
         shutil.rmtree(self.top / "crates/society/out", ignore_errors=True)
@@ -97,6 +139,8 @@ def trials(it):
     yield from of_other_sources(it, why)
     yield from of_other_toolchains(it, why)
     yield from of_a_changed_program(it, why)
+    for part, written in WAITING.items():
+        yield f"the gate is ended in {part}", it.ended(*written), (143, ENDED)
 
 
 def of_other_sources(it, why):
