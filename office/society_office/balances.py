@@ -10,10 +10,10 @@ from collections.abc import Callable, Iterator, Sequence
 from society_office.copy import Copy
 from society_office.parties import names_of, parties
 from society_office.plain_text import plain
-from society_office.pool_names import PoolNames, pool_text
+from society_office.pool_names import POOL_COLUMNS, PoolNames, named, pool_text
 from society_office.statements import folder_of
 
-COLUMNS = ["account", "name", "pool", "pool_name", "first_day", "last_day", "right", "units"]
+COLUMNS = ["account", "name", "pool", *POOL_COLUMNS, "right", "units"]
 # The accounts of the journal: what accounts have, and what pools gave for it.
 HAVE, GAVE = "Accounts", "Pools"
 # What a comment of a journal may have beside letters and digits, so that nothing in it is read as a tag or a date.
@@ -38,26 +38,20 @@ def read(copy: Copy) -> list[Balance]:
     return [Balance(account, names.get(account, ""), pool, rights[pool], units) for account, pool, units in copy.rows(question)]
 
 
-def named(it: Balance, names: PoolNames) -> tuple[str, str, str]:
-    """The name, the first and the last day of its pool, as far as they are known."""
-    name = names.get(it.pool)
-    return (name.name, str(name.first), str(name.last)) if name else ("", "", "")
-
-
 def as_csv(found: Sequence[Balance], names: PoolNames, copy: Copy) -> str:
     """They as CSV with a header."""
     out = io.StringIO()
     writer = csv.writer(out, lineterminator="\n")
     writer.writerow(COLUMNS)
     for it in found:
-        name, first, last = named(it, names)
+        name, first, last = named(names, it.pool)
         writer.writerow([plain(it.account), plain(it.name), it.pool, plain(name), first, last, it.right, it.units])
     return out.getvalue()
 
 
 def as_json(found: Sequence[Balance], names: PoolNames, copy: Copy) -> str:
     """They as JSON, an object for each."""
-    rows = [(it.account, it.name, it.pool, *named(it, names), it.right, it.units) for it in found]
+    rows = [(it.account, it.name, it.pool, *named(names, it.pool), it.right, it.units) for it in found]
     return json.dumps([dict(zip(COLUMNS, row)) for row in rows], ensure_ascii=False, indent=1) + "\n"
 
 

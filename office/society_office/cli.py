@@ -110,7 +110,7 @@ def statement(
             sys.exit(statement_output.write_each(opened, names, since, into, pdf))
         statements = Statements(noted(opened))
         if form == "csv":
-            found = statement_output.write_csv(statements, key or "", since, output)
+            found = statement_output.write_csv(statements, key or "", names, since, output)
         else:
             found = statements.of(key or "", since)
             statement_output.write(found, names, form, output, opened.taken)

@@ -12,13 +12,13 @@ from rich.console import Console
 from society_office.explaining import Explained, Explanation
 from society_office.numbering import counted
 from society_office.plain_text import plain
-from society_office.pool_names import PoolNames, pool_text
+from society_office.pool_names import POOL_COLUMNS, PoolNames, named, pool_text
 from society_office.shares import percent_text
 from society_office.splitting import Part
 from society_office.terminal import console, table
 
 COLUMNS = ["pool", "right", "isrc", "title", "work", "publisher", "file", "reporter", "return", "plays", "seconds", "points"]
-RECKONED = ["amount", "pool_points", "recording_points", "recording_units", "weight", "weights", "units"]
+RECKONED = ["amount", "pool_points", "recording_points", "recording_units", "weight", "weights", "units", *POOL_COLUMNS]
 
 
 def reckoned(it: Part) -> str:
@@ -69,14 +69,15 @@ def as_text(found: Explanation, names: PoolNames) -> str:
     return captured.get()
 
 
-def csv_rows(found: Explanation) -> Iterator[list[object]]:
+def csv_rows(found: Explanation, names: PoolNames) -> Iterator[list[object]]:
     """A row for each length of plays in a return; the units of a credit stand in its first row, so that they add up."""
+    name, first, last = named(names, found.pool)
     for it in found.credits:
         own = [found.pool, found.right, it.isrc, plain(it.owned.title), plain(it.owned.work), it.owned.publisher, it.owned.file]
         plays: list[list[object]] = [[play.reporter, play.number, play.plays, play.seconds, play.points] for play in it.played]
         for k, play in enumerate(plays or [[""] * 5]):
             share = [it.share.weight, it.share.all_weights, it.units if k == 0 else ""]
-            yield [*own, *play, found.amount, found.points, it.part.weight, it.part.units, *share]
+            yield [*own, *play, found.amount, found.points, it.part.weight, it.part.units, *share, plain(name), first, last]
 
 
 def as_csv(found: Explanation, names: PoolNames) -> str:
@@ -84,7 +85,7 @@ def as_csv(found: Explanation, names: PoolNames) -> str:
     out = io.StringIO()
     writer = csv.writer(out, lineterminator="\n")
     writer.writerow(COLUMNS + RECKONED)
-    writer.writerows(csv_rows(found))
+    writer.writerows(csv_rows(found, names))
     return out.getvalue()
 
 

@@ -11,6 +11,7 @@ from typing import NamedTuple, TextIO, TypeVar
 
 from society_office.claims import NEVER, Claims
 from society_office.plain_text import plain
+from society_office.pool_names import POOL_COLUMNS, PoolNames, named
 from society_office.records import Works
 
 NO_RECORDING = "-"
@@ -18,7 +19,8 @@ NO_RECORDING = "-"
 QUOTED = re.compile(r'[",\n]')
 # What a text has that can't stand in a cell as it is.
 SPECIAL = re.compile(r'[",\n]|^[=+@\t\r-]')
-COLUMNS = ["pool", "right", "isrc", "title", "work", "publisher", "account", "units"]
+# What a line says of its pool beside the number stands last, so that who reads lines by their places reads on.
+COLUMNS = ["pool", "right", "isrc", "title", "work", "publisher", "account", "units", *POOL_COLUMNS]
 # Lines of a statement that are held; of more of them there are the sums, and all of them as CSV.
 MOST_HELD = 2_000
 # A work as lines name it: title, number, publisher. The empty words are those of a recording that no work owns.
@@ -126,6 +128,11 @@ def quoted(value: str) -> str:
     return '"' + value.replace('"', '""') + '"' if QUOTED.search(value) else value
 
 
+def end_of(names: PoolNames, pool: int) -> str:
+    """The end of each line of a pool: its name and its days, each cell with the comma before it."""
+    return "".join(f",{cell(it)}" for it in named(names, pool))
+
+
 class Credit(NamedTuple):
     """One line of a statement."""
 
@@ -196,16 +203,16 @@ class Lines:
                 sums.by_pool[pool, self.rights[pool]] += sum([it[2] for it in rows])
                 yield pool, rows
 
-    def write(self, out: TextIO) -> Sums:
+    def write(self, out: TextIO, names: PoolNames) -> Sums:
         """Writes them as CSV with a header; answers their number and the sums by pool."""
         sums, heads, accounts = Sums(), Heads(self.claims, self.works, self.only, self.account), Cells()
         out.write(",".join(COLUMNS) + "\n")
         for pool, rows in self.each_pool(heads, sums):
-            start = f"{pool},{self.rights[pool]},"
+            start, end = f"{pool},{self.rights[pool]},", f"{end_of(names, pool)}\n"
             if self.account is None:
-                ends = [f"{heads[isrc]}{accounts[account]}{units}\n" for isrc, account, units in rows]
+                ends = [f"{heads[isrc]}{accounts[account]}{units}{end}" for isrc, account, units in rows]
             else:
-                ends = [f"{heads[isrc]}{units}\n" for isrc, _, units in rows]
+                ends = [f"{heads[isrc]}{units}{end}" for isrc, _, units in rows]
             out.write(start + start.join(ends))
         return sums
 

@@ -11,7 +11,8 @@ from typing import Any, TextIO
 from society_office import lines
 from society_office.claims import NEVER, Claim
 from society_office.copy import Copy
-from society_office.lines import COLUMNS, NO_WORK, Credit, Heads, Lines, Sums, Words
+from society_office.lines import COLUMNS, NO_WORK, Credit, Heads, Lines, Sums, Words, end_of
+from society_office.pool_names import PoolNames
 
 # Pools whose rows are read beside, at once and ahead of what is written.
 AT_ONCE, AHEAD = 2, 64
@@ -24,7 +25,7 @@ class ManyLines(Lines):
     copy: Copy
     since: int
 
-    def write(self, out: TextIO) -> Sums:
+    def write(self, out: TextIO, names: PoolNames) -> Sums:
         """Writes them as CSV with a header; answers their number and the sums by pool. The rows are read beside what looks the works up."""
         sums, heads = Sums(), Heads(self.claims, self.works, account=self.account)
         # All that is made lives until the last line: looking for what does not would take a tenth of the time.
@@ -35,8 +36,8 @@ class ManyLines(Lines):
                 heads.move(self.cuts[pool])
                 sums.count += len(units)
                 sums.by_pool[pool, self.rights[pool]] = total
-                start = f"{pool},{self.rights[pool]},"
-                out.write(start + f"\n{start}".join(map(operator.add, map(heads.__getitem__, isrcs), units)) + "\n")
+                start, end = f"{pool},{self.rights[pool]},", f"{end_of(names, pool)}\n"
+                out.write(start + f"{end}{start}".join(map(operator.add, map(heads.__getitem__, isrcs), units)) + end)
         return sums
 
     def columns(self, threads: concurrent.futures.Executor) -> Iterator[tuple[int, list[str], list[str], int]]:

@@ -34,6 +34,8 @@ class PoolName:
 
 # The pools that have a name.
 PoolNames = dict[int, PoolName]
+# What a CSV says of a pool beside its number.
+POOL_COLUMNS = ["pool_name", "first_day", "last_day"]
 
 
 def pool_names(copy: pathlib.Path, named: pathlib.Path | None = None) -> PoolNames:
@@ -64,3 +66,9 @@ def day(where: str, words: str) -> datetime.date:
 def pool_text(names: PoolNames, pool: int) -> str:
     """A pool as it is told of: `pool 3`, or `pool 3 (First quarter, 2026-01-01 to 2026-03-31)`."""
     return f"pool {pool} ({names[pool].words})" if pool in names else f"pool {pool}"
+
+
+def named(names: PoolNames, pool: int) -> tuple[str, str, str]:
+    """The name, the first and the last day of a pool, empty where it has none."""
+    name = names.get(pool)
+    return (name.name, str(name.first), str(name.last)) if name else ("", "", "")

@@ -119,12 +119,12 @@ def write(found: Statement, names: PoolNames, form: str, output: pathlib.Path | 
         pages.write_text(output, as_page(found, names, taken) if form == "html" else as_table(found, names))
 
 
-def write_csv(statements: Statements, key: str, since: int, output: pathlib.Path | None) -> Statement:
+def write_csv(statements: Statements, key: str, names: PoolNames, since: int, output: pathlib.Path | None) -> Statement:
     """Writes every line as CSV, to a file or to standard output; answers the statement without its lines."""
     if output is None:
-        return statements.write_csv(key, since, sys.stdout)
+        return statements.write_csv(key, since, sys.stdout, names)
     with pages.new_file(output) as file:
-        return statements.write_csv(key, since, file)
+        return statements.write_csv(key, since, file, names)
 
 
 def as_table(found: Statement, names: PoolNames) -> str:
@@ -139,7 +139,7 @@ def files_of(found: Statement, names: PoolNames, taken: float) -> Iterator[tuple
     """The files of its folder."""
     folder = folder_of(found.key)
     yield f"{folder}/index.html", as_page(found, names, taken, CSV_NAME)
-    yield f"{folder}/{CSV_NAME}", as_csv(found.credits)
+    yield f"{folder}/{CSV_NAME}", as_csv(found.credits, names)
 
 
 def write_each(copy: Copy, names: PoolNames, since: int, into: pathlib.Path, pdf: bool) -> int:

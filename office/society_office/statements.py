@@ -17,6 +17,7 @@ from society_office.lines import COLUMNS, NO_RECORDING, Credit, Lines, Pools, Su
 from society_office.many_lines import ManyLines
 from society_office.parties import names_of, parties
 from society_office.plain_text import plain
+from society_office.pool_names import PoolNames, named
 from society_office.records import UNCLAIMED, Works, sender_names
 
 SENDER = re.compile(r"[0-9A-Z]{11}", re.ASCII)
@@ -125,12 +126,12 @@ class Statements:
         credits, sums = lines.read()
         return Statement(key, name, self.copy.name, since, credits, sums, self.balance(key), self.names, {key: name})
 
-    def write_csv(self, key: str, since: int, out: TextIO) -> Statement:
+    def write_csv(self, key: str, since: int, out: TextIO, names: PoolNames) -> Statement:
         """Writes every line as CSV while it is read; answers the statement without lines and names, to be compared with the balance."""
         if is_sender(key):
-            sums, balance = self.lines_of_publisher(key, since).write(out), None
+            sums, balance = self.lines_of_publisher(key, since).write(out, names), None
         else:
-            sums, balance = self.lines_of_account(key, since)[0].write(out), self.balance(key)
+            sums, balance = self.lines_of_account(key, since)[0].write(out, names), self.balance(key)
         return Statement(key, "", self.copy.name, since, [], sums, balance, {}, {})
 
     def balance(self, account: str) -> int:
@@ -248,18 +249,21 @@ def by_pool(rows: Iterable[tuple[int, str, str | None, int]]) -> Pools:
         yield pool, ((isrc, account, units) for _, isrc, account, units in listed)
 
 
-def as_csv(credits: Iterable[Credit]) -> str:
+def as_csv(credits: Iterable[Credit], names: PoolNames) -> str:
     """The lines of a statement as CSV, with a header."""
     out = io.StringIO()
-    write_csv(credits, out)
+    write_csv(credits, names, out)
     return out.getvalue()
 
 
-def write_csv(credits: Iterable[Credit], out: TextIO) -> None:
+def write_csv(credits: Iterable[Credit], names: PoolNames, out: TextIO) -> None:
     """Writes the lines of a statement as CSV, with a header, line by line."""
     writer = csv.writer(out, lineterminator="\n")
     writer.writerow(COLUMNS)
-    writer.writerows((*it[:3], plain(it.title), plain(it.work), it.publisher, plain(it.account), it.units) for it in credits)
+    for it in credits:
+        name, first, last = named(names, it.pool)
+        own = (plain(it.title), plain(it.work), it.publisher, plain(it.account), it.units)
+        writer.writerow([*it[:3], *own, plain(name), first, last])
 
 
 def folder_of(key: str) -> str:

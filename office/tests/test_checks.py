@@ -2,8 +2,11 @@
 
 import collections
 import json
+import os
 import pathlib
 import random
+import subprocess
+import sys
 
 import cwr
 import mutants
@@ -279,6 +282,28 @@ def test_a_revision_that_is_rejected_in_the_file_of_its_work(tmp_path: pathlib.P
     steps: list[Step] = [File(quarter.ALPHA, 1, "transmissions/1", [work, again])]
     said = run("why", made(program, Office(quarter.NAMES, steps), tmp_path), quarter.ALPHA)
     assert "revision 0 of file 1 stands" in said and "registered since" not in said
+
+
+def dry_run(environment: dict[str, str], *words: object) -> subprocess.CompletedProcess[str]:
+    """A run of examples/dryrun over examples/first.cwr."""
+    command = [sys.executable, ROOT / "examples/dryrun", *words, ROOT / "examples/first.cwr"]
+    return subprocess.run(command, env={**os.environ, **environment}, capture_output=True, text=True, check=False)
+
+
+def test_the_program_of_a_dry_run(tmp_path: pathlib.Path, program: str) -> None:
+    """The one that is named, else that of $SOCIETY_PROGRAM, else `society` on the PATH; the others are none that runs."""
+    none, path = str(tmp_path / "none"), tmp_path / "bin"
+    path.mkdir()
+    (path / "society").symlink_to(program)
+    others = f"{path}:/usr/bin:/bin"
+    for done in (
+        dry_run({"SOCIETY_PROGRAM": none, "PATH": ""}, "--program", program),
+        dry_run({"SOCIETY_PROGRAM": program, "PATH": ""}),
+        dry_run({"SOCIETY_PROGRAM": "", "PATH": others}),
+    ):
+        assert (done.returncode, done.stderr) == (0, "") and "accepted W1 FIRST SONG" in done.stdout
+    done = dry_run({"SOCIETY_PROGRAM": none, "PATH": others})
+    assert done.returncode == 2 and done.stderr.startswith("dryrun: ") and none in done.stderr
 
 
 def test_why(copy: pathlib.Path) -> None:

@@ -1,13 +1,10 @@
 """Statements and parties, beside a reckoning of their own."""
 
 import collections
-import contextlib
 import csv
 import io
 import json
 import pathlib
-import sqlite3
-from collections.abc import Iterator
 
 import pytest
 import quarter
@@ -16,16 +13,10 @@ from click.testing import CliRunner
 from society_office import lines, order_output, parties, statement_output, statements
 from society_office.cli import main
 from society_office.copy import open_copy
+from society_office.page_sums import changed
+from society_office.pool_names import pool_names
 from society_office.records import sender_names
 from society_office.statements import Statements, folder_of
-
-
-@contextlib.contextmanager
-def changed(path: pathlib.Path) -> Iterator[sqlite3.Connection]:
-    """A copy that is changed by hand."""
-    with contextlib.closing(sqlite3.connect(path)) as database:
-        yield database
-        database.commit()
 
 
 def run(*words: object, status: int = 0, out: bool = False) -> str:
@@ -69,6 +60,10 @@ def test_a_publishers_statement_has_what_its_works_earned(copy: pathlib.Path, se
     assert found.name == quarter.NAMES[sender]
 
 
+# Names of pools that a CSV has to quote, or to keep from being formulas.
+NAMED = '1 2026-01-01/2026-03-31 =A "first", of all\n3 2026-04-01/2026-06-30 Second\n'
+
+
 @pytest.fixture
 def every_statement_is_large(monkeypatch: pytest.MonkeyPatch) -> None:
     """The limits of large statements, so low that those of the quarter are large."""
@@ -87,10 +82,15 @@ def earned_by(sender: str) -> list[tuple[int, str, str, str, str, str, str, int]
     ]
 
 
+def lines_by(key: str) -> list[tuple[object, ...]]:
+    """The lines of an account or of a sender, with the account of each."""
+    return list(earned_by(key)) if key in quarter.NAMES else [(*it[:6], key, it[6]) for it in reckoning.lines_of(quarter.OFFICE, key)]
+
+
 @pytest.mark.usefixtures("every_statement_is_large")
 @pytest.mark.parametrize("key", sorted([*reckoning.balances(quarter.OFFICE), *quarter.NAMES]))
 def test_a_large_statement_has_every_sum(copy: pathlib.Path, key: str) -> None:
-    wanted = earned_by(key) if key in quarter.NAMES else [(*it[:6], key, it[6]) for it in reckoning.lines_of(quarter.OFFICE, key)]
+    wanted = lines_by(key)
     by_pool, by_work, by_account = collections.Counter(), collections.Counter(), collections.Counter()
     for pool, right, _, title, work, sender, account, units in wanted:
         by_pool[str(pool), right] += units
@@ -109,11 +109,28 @@ def test_a_large_statement_has_every_sum(copy: pathlib.Path, key: str) -> None:
 
 @pytest.mark.parametrize("key", sorted([*reckoning.balances(quarter.OFFICE), *quarter.NAMES]))
 def test_a_csv_is_what_a_writer_of_csv_makes(copy: pathlib.Path, key: str, request: pytest.FixtureRequest) -> None:
+    copy.with_name("pools.txt").write_text(NAMED)
     with open_copy(copy) as opened:
-        wanted = statements.as_csv(Statements(opened).of(key).credits)
+        wanted = statements.as_csv(Statements(opened).of(key).credits, pool_names(copy))
     assert run("statement", copy, key, "--format", "csv") == wanted
     request.getfixturevalue("every_statement_is_large")
     assert run("statement", copy, key, "--format", "csv") == wanted
+
+
+DAYS = {"1": ("'=A \"first\", of all", "2026-01-01", "2026-03-31"), "3": ("Second", "2026-04-01", "2026-06-30")}
+
+
+@pytest.mark.parametrize("key", sorted([*reckoning.balances(quarter.OFFICE), *quarter.NAMES]))
+def test_a_csv_names_the_pools(copy: pathlib.Path, key: str, tmp_path: pathlib.Path) -> None:
+    (tmp_path / "names").write_text(NAMED)
+    text = run("statement", copy, key, "--format", "csv", "--pools", tmp_path / "names")
+    assert text.startswith("pool,right,isrc,title,work,publisher,account,units,pool_name,first_day,last_day\n")
+    rows = list(csv.DictReader(io.StringIO(text)))
+    assert sorted(it["pool"] for it in rows) == sorted(str(it[0]) for it in lines_by(key))
+    assert all((it["pool_name"], it["first_day"], it["last_day"]) == DAYS.get(it["pool"], ("", "", "")) for it in rows)
+    without = list(csv.reader(io.StringIO(run("statement", copy, key, "--format", "csv"))))
+    assert [it[:8] for it in without] == [it[:8] for it in csv.reader(io.StringIO(text))]
+    assert all(it[8:] == [""] * 3 for it in without[1:])
 
 
 @pytest.mark.parametrize("text", ["=A", "A, B", 'A "B"', '-1,"', "@", "A B", ""])
