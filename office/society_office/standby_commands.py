@@ -70,7 +70,6 @@ def tell_differs(copy: pathlib.Path, other: str, works: int, **access: Any) -> N
     names = (str(copy), other)
     if other.startswith(("http://", "https://")):
         with open_whole(copy) as opened, trial_of(find_program(), noted(opened)) as trial, doing(f"asking {other}"):
-            trial.office.close()
             count, found = compare_answers(opened, Connections(trial.office.address, 0), connected(other, **access), works)
             same = f"{copy} and {other} give the same answers to {count:,} questions"
     else:

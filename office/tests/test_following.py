@@ -1,5 +1,6 @@
 """How far a standby is behind, as resending keeps it and health tells it."""
 
+import dataclasses
 import json
 import os
 import pathlib
@@ -13,7 +14,10 @@ from society_office import following, health
 from society_office.copy import open_copy
 from society_office.errors import OfficeError
 from society_office.health import GOOD, WARNING, WRONG, Limits, Looked
+from society_office.page_sums import changed
 from society_office.program import free_port
+from society_office.resending import Tally
+from test_copy import DERIVED
 from test_second_office import FIRST, PLAYS, RENAMED, standing
 from test_statements import run
 
@@ -41,7 +45,8 @@ def test_what_a_standby_may_lack_is_told(program: str, folder: pathlib.Path) -> 
     came = f"What has come since: fronts of 1 sender ({FIRST.sender} from 1 to 26-0000), 1 held number, 1 end, 2 returns, 1 order"
     assert "is known to have all until " in said and came in said
     assert came in look(state).words and look(state).state == WARNING
-    run("resend", later, "--to", address, "--state", state, "--wait", "0", "--behind", "19", status=1)
+    said = run("resend", later, "--to", address, "--state", state, "--wait", "0", "--behind", "19", status=1)
+    assert said.startswith(f"society-office: no answer from {address}: ")
     with standing(program, folder / "standby.db", port) as address:
         said = run("resend", later, "--to", address, "--since-fronts", "--state", state)
         assert "5 sent: 5 new" in said and "(0 minutes ago)" in said and look(state).state == GOOD
@@ -59,6 +64,41 @@ def test_a_standby_that_is_not_the_same_is_wrong_at_once(program: str, folder: p
     assert look(state).state == WRONG and "another file under this number" in look(state).words
 
 
+def test_how_a_standby_is_in_a_line(monkeypatch: pytest.MonkeyPatch) -> None:
+    since = time.time() - 600 * MINUTE
+    well = following.Following("http://a", since)
+    behind = following.Following("http://a", since, lacks="1 end")
+    with monkeypatch.context() as patched:
+        patched.setenv("TZ", "AHEAD-5")
+        time.tzset()
+        words = [it.words for it in (well, behind, dataclasses.replace(behind, refused=["one", "two"]))]
+    time.tzset()
+    when = f"{time.strftime('%Y-%m-%d %H:%M:%S', time.gmtime(since + 300 * MINUTE))} (600 minutes ago)"
+    assert words == [
+        f"http://a has all that came until {when}",
+        f"http://a is known to have all until {when}. What has come since: 1 end",
+        "http://a is not the same any more: one; two",
+    ]
+    assert following.Following("http://a", time.time() + MINUTE).minutes == 0
+
+
+def test_what_a_round_leaves(copy: pathlib.Path) -> None:
+    before = following.Following("http://a", 1.0, lacks="1 end", refused=["once"])
+    with open_copy(copy) as opened:
+        has = following.held_by(opened)
+        found = dataclasses.replace(before)
+        found.caught_up(opened, Tally(new=1))
+        assert found == following.Following("http://a", opened.taken, has)
+        found.fell_behind(opened)
+        assert found == following.Following("http://a", opened.taken, has, lacks="nothing")
+        # (what it has otherwise is still so while it does not answer, and it is not known to have all)
+        found.refused = ["once"]
+        found.fell_behind(opened)
+        assert found.refused == ["once"]
+        before.caught_up(opened, Tally(refused={"why": ["returns/TV5/1"]}))
+    assert before == following.Following("http://a", 1.0, refused=["refused, why: returns/TV5/1"])
+
+
 def test_the_fronts_that_have_moved(copy: pathlib.Path) -> None:
     with open_copy(copy) as opened:
         has = following.held_by(opened)
@@ -67,12 +107,52 @@ def test_the_fronts_that_have_moved(copy: pathlib.Path) -> None:
     words = following.come_since(before, has)
     assert words == f"fronts of 2 senders ({quarter.ALPHA} from 1 to {has['fronts'][quarter.ALPHA]} and others)"
     assert following.come_since(following.NOTHING, has).startswith(f"fronts of {len(has['fronts'])} senders (")
+    # (a sender of whom no file is applied has not moved)
+    assert following.come_since(following.NOTHING, {**following.NOTHING, "fronts": {quarter.ALPHA: "0"}}) == ""
+
+
+def test_what_has_come_of_each_kind() -> None:
+    one = {**following.NOTHING, "held": {quarter.ALPHA: ["2", "3"]}, "ends": 1, "returns": 1, "orders": 1}
+    assert following.come_since(following.NOTHING, one) == "2 held numbers, 1 end, 1 return, 1 order"
+    assert following.come_since(one, following.NOTHING) == ""
+    # (2 is applied, and 5 has come)
+    assert following.come_since(one, {**one, "held": {quarter.ALPHA: ["3", "5"]}, "returns": 3}) == "1 held number, 2 returns"
+
+
+def test_what_an_older_copy_has(copy: pathlib.Path) -> None:
+    with open_copy(copy) as opened:
+        has = following.held_by(opened)
+        assert has["ends"] == opened.row("SELECT count(*) FROM segment_ends")[0] > 0
+    with changed(copy) as database:
+        database.executescript("DROP TABLE mechanical_pools; DROP TABLE segment_ends; UPDATE office SET layout = 2")
+    with open_copy(copy) as opened:
+        older = following.held_by(opened)
+    assert older["ends"] == 0 and older["fronts"] == has["fronts"] and older["returns"] == has["returns"]
+    with changed(copy) as database:
+        database.executescript(f"{DERIVED} UPDATE office SET layout = 1")
+    with open_copy(copy) as opened, pytest.raises(OfficeError, match="is of layout 1, which has no credits"):
+        following.held_by(opened)
+
+
+def test_a_file_that_a_year_passes_over_is_held(program: str, folder: pathlib.Path) -> None:
+    late, passed = (FIRST._replace(number=rank(year, 1), path=f"files/CW{year}0001RA_900.V22") for year in (27, 26))
+    copy = made(program, Office(quarter.NAMES, [FIRST, End(FIRST.sender, -1, 1, 27), late, passed]), folder)
+    with open_copy(copy) as opened:
+        assert following.held_by(opened)["held"] == {FIRST.sender: ["26-0001"]}
 
 
 def test_what_is_kept_is_of_one_standby(tmp_path: pathlib.Path) -> None:
     state = tmp_path / "state.json"
     following.Following("http://a", 1.0).keep(state)
-    assert following.begun(state, "http://a").since == 1.0 and following.begun(state, "http://b").since > 1.0
+    assert following.begun(state, "http://a").since == 1.0
+    now = time.time()
+    assert now <= following.begun(state, "http://b").since <= time.time()
+    # What was kept stays whole until all of the next is written.
+    os.link(state, tmp_path / "before.json")
+    following.Following("http://a", 2.0).keep(state)
+    assert (following.kept(tmp_path / "before.json").since, following.kept(state).since) == (1.0, 2.0)
+    with pytest.raises(OfficeError, match="is not what `resend --state` keeps"):
+        following.kept(tmp_path / "none.json")
     for text in ("none", "[]", json.dumps({"fronts": {}})):
         state.write_text(text)
         with pytest.raises(OfficeError, match="is not what `resend --state` keeps"):

@@ -14,15 +14,18 @@ from collections.abc import Iterator
 import pytest
 import quarter
 import random_office
+from click.testing import CliRunner
 from conftest import backed_up, made, put, running, served
 from office_value import End, Office, Pool, Return, Step, rank
-from society_office import comparing, program, resending
+from society_office import comparing, program, rebuilding, resending
 from society_office.asking import ON_ONE_CONNECTION, Connections, Request, access_by_netrc
+from society_office.cli import main
 from society_office.copy import open_copy
 from society_office.errors import OfficeError
 from society_office.page_sums import changed
 from society_office.program import free_port
-from test_copy import DERIVED
+from society_office.standby_commands import connected, send_again
+from test_copy import DERIVED, in_log
 from test_statements import run
 
 ROUNDS = range(8)
@@ -141,7 +144,9 @@ def test_a_number_with_two_contents_is_told_and_nothing_else(
     copy, second = two_offices(program, folder, steps, one, other)
     said = run("compare", copy, second, status=1, out=True).splitlines()
     assert [it.split(":")[0] for it in said] == [kind, "fronts"][: len(said)] and len(said) == (2 if kind == "ends" else 1)
-    assert said[0].startswith(f"{kind}: 1 difference; first {place}") and f"{copy} has " in said[0] and f"{second} has " in said[0]
+    has = {"ends": ("(1, 26)", "(1, 27)"), "orders": ("{'kind': 'PR', ", "{'kind': 'MR', ")}.get(kind, ("", ""))
+    assert said[0].startswith(f"{kind}: 1 difference; first {place}")
+    assert f": {copy} has {has[0]}" in said[0] and f"; {second} has {has[1]}" in said[0]
     with standing(program, second.with_name("office.db")) as address:
         told = run("resend", copy, "--to", address, status=1, out=True).splitlines()
     assert told[0].endswith("1 refused") and told[1].startswith(f"refused, {why}: ") and len(told) == 2
@@ -223,7 +228,7 @@ def test_rebuilding(layout: int, program: str, tmp_path: pathlib.Path, monkeypat
         with changed(copy) as database:
             database.execute("UPDATE versions SET ordinal = ordinal + 100 WHERE work = 'E1'")
         said = run("rebuild", copy, status=1, out=True)
-        assert "0 refused" in said and "works: " in said and "the rebuilt office has ordinal " in said
+        assert "0 refused" in said and re.search(rf"works: .* {copy} has ordinal 10\d, .*; the rebuilt office has ordinal \d, ", said), said
     else:
         assert copy.read_bytes() == before
 
@@ -318,3 +323,59 @@ def test_what_is_broken_off_before_it_connects(busy: str) -> None:
     with pytest.raises(OfficeError, match="broken off"):
         office.ask("PUT", "/v1/returns/TV5/2", b"")
     assert time.monotonic() - begun < 15
+
+
+def test_what_was_refused_is_told_where_nothing_differs(copy: pathlib.Path, monkeypatch: pytest.MonkeyPatch) -> None:
+    assert "there is no program at none" in run("rebuild", copy, "--program", "none", status=1)
+    monkeypatch.setattr(rebuilding, "rebuild", lambda *_: (resending.Tally(refused={"why": ["pools/1"]}), [], "nothing"))
+    assert run("rebuild", copy, status=1, out=True) == "1 sent: 0 new, 0 known, 1 refused\nrefused, why: pools/1\n"
+
+
+def told(*words: object) -> tuple[str, str]:
+    """What the command prints on standard output, and on standard error."""
+    ended = CliRunner(mix_stderr=False).invoke(main, [str(it) for it in words], catch_exceptions=False)
+    assert ended.exit_code == 0, (ended.stdout, ended.stderr)
+    return ended.stdout, ended.stderr
+
+
+def test_what_is_noted_of_a_copy(program: str, folder: pathlib.Path) -> None:
+    copy, pair = made(program, Office(quarter.NAMES, [FIRST, PLAYS]), folder), folder / "pair.db"
+    working = pathlib.Path(shutil.copy(copy, folder / "working.db"))
+    with changed(working) as database:
+        database.execute("UPDATE fronts SET works = works + 1")
+    in_log(working, "UPDATE fronts SET works = works - 1", folder)
+    noted = f"society-office: {pair} and pair.db-wal were read as one\n"
+    assert told("compare", copy, pair) == (f"{copy} and {pair} are the same: 1 file, 1 return, 0 pools, 0 credits\n", noted)
+    assert told("compare", pair, copy)[1] == told("rebuild", pair)[1] == noted
+    with standing(program, folder / "standby.db") as address:
+        assert told("resend", pair, "--to", address) == ("2 sent: 2 new, 0 known, 0 refused\n", noted)
+    older = pathlib.Path(shutil.copy(copy, folder / "older.db"))
+    with changed(older) as database:
+        database.executescript(f"DROP TABLE mechanical_pools; DROP TABLE segment_ends; {DERIVED} UPDATE office SET layout = 1")
+    said, noted = told("compare", copy, older)
+    assert f"{copy} and {older} are the same: " in said and f"{older} is of layout 1: " in noted
+
+
+def test_how_an_office_is_reached(busy: str, copy: pathlib.Path, tmp_path: pathlib.Path, monkeypatch: pytest.MonkeyPatch) -> None:
+    offices = connected("http://127.0.0.1:1", False, None, None, 7, 3.5).offices
+    assert [it.seconds for it in offices] == [3.5] * 7
+    defaults = {it.name: it.default for it in send_again.params}
+    assert (defaults["wait"], defaults["connections"], defaults["behind"]) == (60, 0, 15)
+    for count, status, why in ((32, 1, "is no address"), (33, 2, "--connections")):
+        assert why in run("resend", copy, "--to", "office", "--connections", count, status=status)
+    monkeypatch.setenv("HOME", str(tmp_path))
+    (tmp_path / ".netrc").write_text("machine 127.0.0.1 login office password secret\n")
+    (tmp_path / ".netrc").chmod(0o600)
+    run("resend", copy, "--to", busy, "--netrc", "--wait", 0, status=1)
+    assert Busy.asked == ["Basic b2ZmaWNlOnNlY3JldA=="]
+    for words in (["resend", copy, "--to"], ["compare", copy]):
+        said = run(*words, "https://127.0.0.1:1", "--authority", tmp_path / "none.crt", "--wait", 0, status=1)
+        assert f"{tmp_path / 'none.crt'} is no certificate that can be read" in said
+
+
+def test_connections_are_ended_whatever_comes(copy: pathlib.Path, monkeypatch: pytest.MonkeyPatch) -> None:
+    ended: list[str] = []
+    monkeypatch.setattr(Connections, "close", lambda it: ended.append(it.address))
+    address = f"http://127.0.0.1:{free_port()}"
+    run("resend", copy, "--to", address, "--wait", 0, status=1)
+    assert ended == [address]
