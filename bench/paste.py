@@ -6,7 +6,8 @@ next fenced block under the same heading.
 Each document begins in a fresh copy of the checkout, in a folder of its own, in which bin/society runs the program, and with the program on
 the PATH as `society`; its blocks go into one bash. Standard output and standard error are compared with the text block line by line, but for
 blanks at the ends of lines and the shell's own lines on jobs; a block without a text block has to end with status 0. What the blocks
-left running is reported and stopped. Ends with status 1 where anything differs.
+left running is reported and stopped. Ends with status 1 where anything differs, or where a package that the blocks use is missing, which
+is named before any is pasted.
 """
 import ctypes
 import dataclasses
@@ -28,6 +29,10 @@ from common import ROOT
 
 DOCUMENTS = ["README.md", "docs/OPERATIONS.md", "docs/FAULTS.md", "docs/PUBLISHERS.md", "docs/STATIONS.md", "docs/OFFICE.md"]
 PRACTICE = "bench/practice.sh"
+# What blocks use and a machine may lack: programs, in packages of their names, and what society-office asks of Debian's Python.
+PROGRAMS = ["curl", "nginx", "openssl", "sqlite3"]
+MODULES = ["click", "jinja2", "rich"]
+PYTHON = "/usr/bin/python3"
 FENCE = re.compile(r"^( *)(```+|~~~+) *(\w*) *$")
 PORT = re.compile(r"--port[ =](\d+)|127\.0\.0\.1:(\d+)|localhost:(\d+)")
 # What bash says of its jobs: `[1] 4711`, `[1]+  Terminated  ..`, `bash: line 3:  4711 Terminated  ..`.
@@ -229,11 +234,28 @@ def ports_in_use(names):
                 yield port
 
 
+def missing(names):
+    """The packages that are missing of those that the blocks of these documents use, or the script that some of them begin with."""
+    pasted_text = "".join(it.commands for name in names for it in blocks((ROOT / name).read_text()))
+    if PRACTICE in pasted_text:
+        pasted_text += (ROOT / PRACTICE).read_text()
+    words = set(re.findall(r"[\w-]+", pasted_text))
+    yield from (it for it in PROGRAMS if it in words and not shutil.which(it))
+    if "society-office" in words and not os.access(PYTHON, os.X_OK):
+        yield "python3"
+    elif "society-office" in words:
+        for it in MODULES:
+            if subprocess.run([PYTHON, "-c", f"import {it}"], stderr=subprocess.DEVNULL, check=False).returncode:
+                yield f"python3-{it}"
+
+
 def main():
     options = common.parser(__doc__)
     options.add_argument("--seconds", type=float, default=60, help="most seconds that a block may take (default: 60)")
     options.add_argument("documents", nargs="*", default=DOCUMENTS, help=f"from the top of the checkout (default: {' '.join(DOCUMENTS)})")
     options = options.parse_args()
+    if lacking := list(missing(options.documents)):
+        sys.exit(f"missing, and the documents use it: apt-get install {' '.join(lacking)}")
     if in_use := list(ports_in_use(options.documents)):
         sys.exit(f"another program has port {in_use[0]}, which the documents use: stop it first")
     # What goes on after its parent has ended, as nginx does, is then a child of this process and can be stopped.
