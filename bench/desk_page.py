@@ -15,7 +15,6 @@ import base64
 import json
 import os
 import pathlib
-import re
 import shutil
 import socket
 import subprocess

@@ -1,7 +1,7 @@
 """Connections over TCP that share one book: what each peer gets, and the lines that are printed."""
 import socket
 
-from common import FIRST, NO_WORKS, put_file, request
+from common import FIRST, NO_WORKS, put_file
 from program import BAD, LIMIT, Ended, Server, acknowledgement, answer, applied, told, trial
 
 UNKNOWN = b'HTTP/1.1 404 Not Found\r\nContent-Type: application/json\r\nContent-Length: 19\r\nConnection: close\r\n\r\n{"error":"unknown"}'

@@ -6,6 +6,7 @@ import common
 from common import CSV_HEADER, FIRST, NO_WORKS, OFFICE, REVISION, get, put_file, put_pool, put_return
 from program import BAD, ROW_NAMES, ROWS, Ended, acknowledgement, answer, applied, replayed, run, told, trial
 
+
 @trial
 def rows_over_bytes(program, folder):
     """The rows of crates/test_rows, which are served over the plain store there."""
