@@ -1,6 +1,7 @@
 """What the trials share: runs of the built program, what they write, and a server over a file."""
 import contextlib
 import dataclasses
+import os
 import pathlib
 import socket
 import subprocess
@@ -18,6 +19,8 @@ ROWS = ROOT / "crates/test_rows"
 ROW_NAMES = (ROWS / "args").read_text().split()
 # The most seconds that one run may take.
 LIMIT = 60
+# How many bytes before the first that differs a message has.
+CONTEXT = 100
 TRIALS = []
 # Those that take half a minute or more: of several programs the first one is tried so.
 SLOW = []
@@ -40,8 +43,11 @@ def slow(function):
 
 
 def told(row, seen, wanted):
-    """What a row sees has to be what it wants."""
+    """What a row sees has to be what it wants; of bytes that are not the message has those from a little before the first that differs."""
     if seen != wanted:
+        start = max(0, len(os.path.commonprefix([seen, wanted])) - CONTEXT) if isinstance(seen, bytes) and isinstance(wanted, bytes) else 0
+        if start:
+            row, seen, wanted = f"{row}: behind {start} bytes as wanted", seen[start:], wanted[start:]
         raise Other(f"{row}: there is {seen!r:.2000}, and wanted is {wanted!r:.2000}")
 
 

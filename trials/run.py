@@ -68,7 +68,10 @@ def main():
     options = argparse.ArgumentParser(description=__doc__, formatter_class=argparse.RawDescriptionHelpFormatter)
     options.add_argument("--only", metavar="WORD", default="", help="the trials with this word in their names (default: all)")
     options.add_argument("programs", metavar="PROGRAM", nargs="*", type=pathlib.Path, help="(default: the program that bin/society runs)")
+    options.epilog = "trials:\n" + "\n".join(f"  {it.__name__}" for it in TRIALS)
     options = options.parse_args()
+    if not any(options.only in it.__name__ for it in TRIALS):
+        sys.exit(f"no trial has {options.only} in its name; `trials/run.py --help` lists them")
     named = [it.resolve() for it in options.programs] or [common.program_at_hand()]
     passed, failed = check(named, options.only)
     return int(failed > 0 or not passed)

@@ -9,7 +9,11 @@ from program import BAD, ROW_NAMES, ROWS, Ended, acknowledgement, answer, applie
 
 @trial
 def rows_over_bytes(program, folder):
-    """The rows of crates/test_rows, which are served over the plain store there."""
+    """The rows of crates/test_rows, which are served over the plain store there; each file of requests is one."""
+    files = {str(it.relative_to(ROWS / "data"))[: -len(".http")] for it in (ROWS / "data").rglob("*.http")}
+    told("files of requests without a line in args", sorted(files - set(ROW_NAMES)), [])
+    lines = {it.split(":")[0] for it in (ROWS / "stdout").read_text().splitlines()}
+    told("rows without a line in stdout", sorted(set(ROW_NAMES) - lines), [])
     for row in ROW_NAMES:
         ended = run(program, folder, ["replay", *OFFICE], (ROWS / f"data/{row}.http").read_bytes())
         told(row, ended.out + ended.err, (ROWS / f"data/{row}.answers").read_bytes())

@@ -102,9 +102,11 @@ class Checked:
 
 
 def read_files(names: Sequence[pathlib.Path]) -> list[Sent]:
-    """The files that are named; an OfficeError where one of works names no sender."""
+    """The files that are named; an OfficeError where one is JSON, as an order is, or one of works names no sender."""
     found = [Sent(str(it), it.read_bytes()) for it in names]
     for it in found:
+        if it.body.lstrip().startswith(b"{"):
+            raise OfficeError(f"{it.name}: it is JSON, so no file and no return; an order is tried by `society-office rehearse`")
         if not it.is_return and not (it.body.startswith(b"HDR") and SENDER.fullmatch(it.sender)):
             raise OfficeError(
                 f"{it.name}: the first line has to begin with HDR and the sender, as HDRPB000000012; here is {begin_of(it.body)}"

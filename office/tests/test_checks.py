@@ -255,6 +255,7 @@ def test_a_file_of_works_without_its_header(tmp_path: pathlib.Path, program: str
         (b"", "here is nothing"),
         (b"\xef\xbb\xbf" + FIRST, "a byte order mark and 'HDRPB000000012'"),
         (FIRST[3:], "here is 'PB000000012EXA'"),
+        (b' {"amount":1,"cut":[],"returns":[]}', "it is JSON, so no file and no return"),
     ):
         (tmp_path / "it.cwr").write_bytes(body)
         assert said in run("check", tmp_path / "it.cwr", "--program", program, status=1)
