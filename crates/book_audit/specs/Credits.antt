@@ -1,9 +1,10 @@
 -- What an audit finds of the lines of pools' credits.
-use Rattle.std.specs.Prelude.{ℕ, pos, ◌≡◌, ◌<◌, ◌^◌, true, List, [], ◌∷◌, Some, Vec, map}
+use Rattle.std.specs.Prelude.{ℕ, pos, ◌≡◌, ◌<◌, ◌^◌, true, List, [], ◌∷◌, Some, Vec}
 use Rattle.std.specs.BTreeSet.{BTreeSet, contains}
-use Rattle.std.specs.List.{AllByRecursion, enumerate_from}
+use Rattle.std.specs.List.{AllByRecursion}
 use Rattle.std.specs.Ordering.{nat_cmp}
 use Rattle.std.specs.declared.alloc.Global.{Global}
+use Rattle.pool_split.specs.Credits.{credits_together}
 use Rattle.pool_split.specs.declared.claim.Credit.{Credit}
 use Rattle.share_rules.specs.declared.office.Office.{Office}
 use Rattle.sqlite_trees.specs.Tree.{Trees}
@@ -15,9 +16,8 @@ use Rattle.society_rows.specs.Layout as layout
 use Rattle.society_rows.specs.Reads.{Lists, has_key}
 use Rattle.society_rows.specs.Stored.{rows_in}
 use Rattle.society_book.specs.Columns.{whole_number_at}
-use Rattle.society_book.specs.DerivedRows.{credit_row}
 use Rattle.society_book.specs.Kept.{HoldsBook}
-use Rattle.society_closings.specs.Closings.{ListsOrder, PaysAmong}
+use Rattle.society_closings.specs.Closings.{ListsOrder, PaysAmong, lines_from}
 use Rattle.society_closings.specs.declared.pool_works.PoolWorks.{PoolWorks}
 
 -- the tables hold no book of this office in which this order closes a pool, where the works are listed that it looks for
@@ -26,15 +26,15 @@ HasNoPool office pool order works db = ListsOrder office order db works → (boo
 
 -- the lines of a pool's credits, from 0 on
 abbrev pub credit_lines : ℕ → List Credit → List Row
-credit_lines pool credits = map (λ line. credit_row pool line.0 line.1) (enumerate_from 0 credits)
+credit_lines pool credits = lines_from pool 0 credits
 
 -- the rows that the table of credits has of a pool are just the lines of these credits
 abbrev pub HasCredits : ℕ → List Credit → Trees → Type 0
 HasCredits pool credits db = (rows : List Row) × Lists layout.credits_table (has_key (Int (pos pool) ∷ [])) 2 db rows × (rows ≡ credit_lines pool credits)
 
 -- so are they, and these are the credits that the pool pays by the tables, where the works are listed that it looks for
-abbrev pub FindsCredits : Office → ℕ → Order → PoolWorks → Trees → Vec Credit Global → Type 0
-FindsCredits office pool order works db credits = HasCredits pool credits.items db × PaysAmong office order works db credits.items
+abbrev pub FindsCredits : Office → ℕ → Order → PoolWorks → Trees → Vec (List Credit) Global → Type 0
+FindsCredits office pool order works db portions = HasCredits pool (credits_together portions.items) db × PaysAmong office order works db (credits_together portions.items)
 
 -- the row begins with a whole number from 0, of 32 bits, that is the number of one of these pools
 abbrev pub IsCreditOf : BTreeSet ℕ → Row → Type 0

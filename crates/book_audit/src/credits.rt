@@ -1,26 +1,26 @@
 //! What a pool pays by the tables, worked out anew in a transaction and compared with the lines of its credits.
-ghost use Rattle.std.specs.Prelude.{◌≡◌, map, IfErr, IfOk, Ok};
-ghost use Rattle.book_audit.specs.Examining.{Examines, IsNot};
+ghost use Rattle.std.specs.Prelude.{◌≡◌, ◌↔◌, IfErr, IfOk, IsTrue};
+ghost use Rattle.book_audit.specs.Examining.{Examines, IsNot, Judges};
 ghost use Rattle.book_audit.specs.Credits.{FindsCredits, HasCredits, HasNoPool, credit_lines};
-ghost use Rattle.book_audit.specs.CreditSteps.{HasLines, ListsOnly};
+ghost use Rattle.book_audit.specs.CreditSteps.{ListsOnly};
+ghost use Rattle.pool_split.specs.Credits.{credits_together};
 ghost use Rattle.society_closings.specs.Blamed.{CannotPayAmong};
-ghost use Rattle.society_closings.specs.Closings.{PaysAmong};
+ghost use Rattle.society_closings.specs.Closings.{PaysAmong, lines_from};
 ghost use Rattle.society_rows.specs.Between.{Within};
-ghost use Rattle.society_rows.specs.Rows.{credit_values};
 
 use crate::AuditFault;
 use crate::alike::are_rows;
 use crate::reading::{ask, worked_out};
-use pool_split::Credit;
+use pool_split::{Credit, Portion};
 use share_rules::Office;
-use society_closings::{PoolWorks, credits_in, line_rows, texts_of};
+use society_closings::{PoolWorks, line_rows, portions_in, texts_of};
 use society_core::PoolOrder;
-use society_rows::{CreditRow, Question, RowFault};
-use sqlite::{Alter, Transaction};
+use society_rows::Question;
+use sqlite::{Alter, Row, Transaction};
 use std::alloc::Global;
 use work_ids::PoolNumber;
 
-/// What an order pays by the tables, out of works that are listed. Where these are those that the order looks for: `Damaged` where no book
+/// What an order pays by the tables, a portion for each recording, out of works that are listed. Where these are those that the order looks for: `Damaged` where no book
 /// whose works the tables have can pay it, and `Memory` or `Store` where memory or the database failed.
 pub fn paid_by<S: Alter>(
     alloc: Global,
@@ -28,41 +28,69 @@ pub fn paid_by<S: Alter>(
     office: &Office,
     order: &PoolOrder,
     works: &PoolWorks,
-) -> Result<Vec<Credit>, AuditFault>
-    ensures examined { Within S.Store tx.old tx.new (Examines (CannotPayAmong office.now order.now works.now)) result (λ db credits. PaysAmong office.now order.now works.now db credits.items) }
+) -> Result<Vec<Portion>, AuditFault>
+    ensures examined { Within S.Store tx.old tx.new (Examines (CannotPayAmong office.now order.now works.now)) result (λ db portions. PaysAmong office.now order.now works.now db (credits_together portions.items)) }
 {
-    Ok(credits_in(alloc, tx, office, order, works)?)
+    Ok(portions_in(alloc, tx, office, order, works)?)
 }
 
-// That the lines of a pool's credits are these; else `Damaged`.
-fn are_lines<S: Alter>(
-    tx: &mut Transaction<'_, S>,
+// Whether rows are the lines of these credits of a pool, from the first on.
+fn are_from(
+    alloc: Global,
     pool: u32,
-    wanted: &[CreditRow<'_>],
-) -> Result<(), AuditFault>
-    ensures examined { Within S.Store tx.old tx.new (Examines (IsNot (ListsOnly pool (map credit_values wanted.now)))) result
-        (λ db _. HasLines pool (map credit_values wanted.now) db) }
+    first: usize,
+    rows: &[Row],
+    credits: &[Credit],
+) -> Result<bool, AuditFault>
+    ensures alike { IfOk result (λ alike. IsTrue alike ↔ (rows.now ≡ lines_from pool first credits.now)) }
+    ensures judged { IfErr result (Judges ⊥) }
 {
-    let rows = ask(tx, Question::Credits(pool))?;
-    if are_rows(rows.as_slice(), wanted) {
-        Ok(())
-    } else {
-        Err(AuditFault::Damaged)
-    }
+    let texts = worked_out(texts_of(alloc, credits))?;
+    let wanted = worked_out(line_rows(alloc, pool, first, credits, texts.as_slice()))?;
+    Ok(are_rows(rows, wanted.as_slice()))
 }
 
-// That the lines of a pool's credits are those of these credits; else `Damaged`.
+// Whether rows are the lines of what a pool pays; one portion's are worked out at a time.
+fn are_lines(
+    alloc: Global,
+    pool: u32,
+    rows: &[Row],
+    portions: &[Portion],
+) -> Result<bool, AuditFault>
+    ensures alike { IfOk result (λ alike. IsTrue alike ↔ (rows.now ≡ credit_lines pool (credits_together portions.now))) }
+    ensures judged { IfErr result (Judges ⊥) }
+{
+    let mut line: usize = 0;
+    let mut left = rows;
+    for portion in portions {
+        let credits = portion.credits(alloc)?;
+        let Some((here, behind)) = left.split_at_checked(credits.len()) else {
+            return Ok(false);
+        };
+        if !are_from(alloc, pool, line, here, credits.as_slice())? {
+            return Ok(false);
+        }
+        line = rows.len() - behind.len();
+        left = behind;
+    }
+    Ok(left.is_empty())
+}
+
+// That the lines of a pool's credits are those of what it pays; else `Damaged`.
 fn lines_agree<S: Alter>(
     alloc: Global,
     tx: &mut Transaction<'_, S>,
     pool: u32,
-    credits: &[Credit],
+    portions: &[Portion],
 ) -> Result<(), AuditFault>
-    ensures examined { Within S.Store tx.old tx.new (Examines (IsNot (ListsOnly pool (credit_lines pool credits.now)))) result (λ db _. HasCredits pool credits.now db) }
+    ensures examined { Within S.Store tx.old tx.new (Examines (IsNot (ListsOnly pool (credits_together portions.now)))) result (λ db _. HasCredits pool (credits_together portions.now) db) }
 {
-    let texts = worked_out(texts_of(alloc, credits))?;
-    let wanted = worked_out(line_rows(alloc, pool, credits, texts.as_slice()))?;
-    are_lines(tx, pool, wanted.as_slice())
+    let rows = ask(tx, Question::Credits(pool))?;
+    if are_lines(alloc, pool, rows.as_slice(), portions)? {
+        Ok(())
+    } else {
+        Err(AuditFault::Damaged)
+    }
 }
 
 /// What a pool pays by the tables, worked out anew out of works that are listed, where the lines of its credits are just these; else
@@ -74,10 +102,10 @@ pub fn credits_agree<S: Alter>(
     pool: PoolNumber,
     order: &PoolOrder,
     works: &PoolWorks,
-) -> Result<Vec<Credit>, AuditFault>
+) -> Result<Vec<Portion>, AuditFault>
     ensures examined { Within S.Store tx.old tx.new (Examines (HasNoPool office.now pool order.now works.now)) result (FindsCredits office.now pool order.now works.now) }
 {
-    let credits = paid_by(alloc, tx, office, order, works)?;
-    lines_agree(alloc, tx, pool.value(), credits.as_slice())?;
-    Ok(credits)
+    let portions = paid_by(alloc, tx, office, order, works)?;
+    lines_agree(alloc, tx, pool.value(), portions.as_slice())?;
+    Ok(portions)
 }

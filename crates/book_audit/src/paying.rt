@@ -114,8 +114,8 @@ fn totals_among<S: Alter>(
 {
     let mut totals = Totals::new(alloc);
     for one in closed {
-        let credits = credits_agree(alloc, tx, office, one.pool, &one.order, works)?;
-        totals.add(credits.as_slice())?;
+        let portions = credits_agree(alloc, tx, office, one.pool, &one.order, works)?;
+        totals.add_portions(portions.as_slice())?;
     }
     Ok(totals)
 }

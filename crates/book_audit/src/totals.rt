@@ -2,10 +2,11 @@
 ghost use Rattle.std.specs.Prelude.{◌++◌, [], List, IfErr, OnOk};
 ghost use Rattle.book_audit.specs.Balances.{AddsToAccount, AreTotalsOf};
 ghost use Rattle.book_audit.specs.Examining.{Judges};
+ghost use Rattle.pool_split.specs.Credits.{credits_together};
 ghost use Rattle.pool_split.specs.declared.claim.Credit.{Credit as CreditValue};
 
 use crate::AuditFault;
-use pool_split::Credit;
+use pool_split::{Credit, Portion};
 use society_book::text_of;
 use std::alloc::Global;
 use std::collections::BTreeMap;
@@ -55,6 +56,18 @@ impl Totals {
         for credit in credits {
             let account = text_of(self.alloc, &credit.account)?;
             add_units(&mut self.units, account, credit.units)?;
+        }
+        Ok(())
+    }
+
+    /// Adds the credits of portions, one portion after another; it fails as `add` does.
+    pub fn add_portions(&mut self, portions: &[Portion]) -> Result<(), AuditFault>
+        ensures added { OnOk result ((done : List CreditValue) → AreTotalsOf self.old done → AreTotalsOf self.new (done ++ credits_together portions.now)) }
+        ensures judged { IfErr result (Judges ⊥) }
+    {
+        for portion in portions {
+            let credits = portion.credits(self.alloc)?;
+            self.add(credits.as_slice())?;
         }
         Ok(())
     }

@@ -39,6 +39,15 @@ claim_credits_by isrc (Some holders) units = map (holder_credit isrc) (zip holde
 abbrev pub claim_credits : Claim → ℕ → List Credit
 claim_credits claim units = claim_credits_by claim.isrc claim.holders units
 
+-- the credits of a portion: those of a claim that is paid so many units, nobody's where there is no claim (profile)
+abbrev pub portion_credits : Option Claim → ℕ → List Credit
+portion_credits None units = lone_credit None units
+portion_credits (Some claim) units = claim_credits claim units
+
+-- the credits of portions, one portion after another
+abbrev pub credits_together : List (List Credit) → List Credit
+credits_together portions = flat_map (λ credits. credits) portions
+
 -- the credits of recordings that are paid these parts
 abbrev pub paid_credits : List Claim → List ℕ → List Credit
 paid_credits claims parts = flat_map (λ paid. claim_credits paid.0 paid.1) (zip claims parts)
@@ -52,6 +61,11 @@ credits amount (claim ∷ claims) = paid_credits (claim ∷ claims) (split_of am
 abbrev pub HasWeights : Option (List Holder) → Type 0
 HasWeights None = ⊤
 HasWeights (Some holders) = (1 ≤ sum (weights_in holders)) × (sum (weights_in holders) ≤ 1000000000000000000)
+
+-- the units of a portion can be split: they are at most 10 to the 12, and the holders of its claim have weights
+abbrev pub CanBeSplit : Option Claim → ℕ → Type 0
+CanBeSplit None units = units ≤ 1000000000000
+CanBeSplit (Some claim) units = (units ≤ 1000000000000) × HasWeights claim.holders
 
 -- claims ascend by the bytes of their ISRCs, so that none has an ISRC twice (profile)
 abbrev pub Ascend : List Claim → Type 0

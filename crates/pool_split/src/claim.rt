@@ -1,14 +1,16 @@
 //! What a pool is split over, and what it credits.
-ghost use Rattle.std.specs.Prelude.{◌≡◌};
+ghost use Rattle.std.specs.Prelude.{◌≡◌, IfOk};
 
 use share_rules::Holder;
+use std::alloc::{AllocError, Global};
 use std::marker::Model;
+use std::rc::Rc;
 use work_ids::{Account, Isrc};
 
-/// The holders of a work with their weights, in order. Clauses see a list.
+/// The holders of a work with their weights, in order, kept once for all that name them. Clauses see a list.
 #[derive(Debug, Drop)]
 pub struct Holders {
-    list: Vec<Holder>,
+    list: Rc<Vec<Holder>>,
 }
 
 impl Model for Holders {
@@ -17,22 +19,31 @@ impl Model for Holders {
 
     ghost Value = { List Holder };
 
-    ghost view = { λ h. h.list.items };
+    ghost view = { λ h. h.list.value.items };
 }
 
 impl Holders {
     /// These holders.
-    pub fn from_vec(list: Vec<Holder>) -> Holders
-        ensures { result ≡ list.items }
+    pub fn from_vec(alloc: Global, list: Vec<Holder>) -> Result<Holders, AllocError>
+        ensures { IfOk result (λ holders. holders ≡ list.items) }
     {
-        Holders { list }
+        let list = Rc::new(alloc, list)?;
+        Ok(Holders { list })
+    }
+
+    /// The same holders, for another that names them.
+    pub fn share(&self) -> Result<Holders, AllocError>
+        ensures { IfOk result (λ holders. holders ≡ self.now) }
+    {
+        let list = self.list.clone()?;
+        Ok(Holders { list })
     }
 
     /// The holders, lent.
     pub fn as_slice(&self) -> &[Holder]
         ensures { result.now ≡ self.now }
     {
-        self.list.as_slice()
+        self.list.as_ref().as_slice()
     }
 }
 
@@ -43,6 +54,23 @@ pub struct Claim {
     pub isrc: Isrc,
     pub points: u64,
     pub holders: Option<Holders>,
+}
+
+impl Claim {
+    /// The same claim, of the same holders.
+    pub fn share(&self) -> Result<Claim, AllocError>
+        ensures { IfOk result (λ claim. claim ≡ self.now) }
+    {
+        let holders = match &self.holders {
+            None => None,
+            Some(holders) => Some(holders.share()?),
+        };
+        Ok(Claim {
+            isrc: self.isrc,
+            points: self.points,
+            holders,
+        })
+    }
 }
 
 /// What an account is credited of a pool for a recording, or for none.

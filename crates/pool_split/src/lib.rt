@@ -5,10 +5,12 @@ mod claim;
 mod crediting;
 pub mod laws;
 mod payable;
+mod portion;
 mod splitting;
 mod threshold;
 
 pub use claim::{Claim, Credit, Holders};
-pub use crediting::credits;
+pub use crediting::{credits, portions};
 pub use payable::are_payable;
+pub use portion::Portion;
 pub use splitting::split;

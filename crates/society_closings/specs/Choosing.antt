@@ -5,6 +5,7 @@ use Rattle.std.specs.declared.alloc.Global.{Global}
 use Rattle.cwr_files.specs.Contents.{transactions_of, transmission_in}
 use Rattle.perf_returns.specs.Returns.{performances_in}
 use Rattle.perf_returns.specs.declared.performance.Performance.{Performance}
+use Rattle.pool_split.specs.Credits.{credits_together}
 use Rattle.pool_split.specs.declared.claim.Credit.{Credit}
 use Rattle.share_rules.specs.declared.office.Office.{Office}
 use Rattle.share_rules.specs.declared.kind.Kind.{Kind}
@@ -111,10 +112,10 @@ PaysTallied office order tally works db credits =
     ListsWorks (wants_for order.cut (is_tallied tally)) db works.listed → AreWorksWeighed office db works → (book : Book) → HoldsWorks office book db → ReachesCut book order → Tallies tally (rows_named book order) → credits ≡ credits_of office book order
 
 -- by the tally of an order's returns and its candidates it has these credits
-abbrev pub PaysByTally : Tally → List Candidate → Order → Result (Vec Credit Global) RowFault → Type 0
+abbrev pub PaysByTally : Tally → List Candidate → Order → Result (Vec (List Credit) Global) RowFault → Type 0
 PaysByTally tally candidates order result =
     (office : Office) (book : Book) → Tallies tally (rows_named book order) → AreFor order.kind office tally (works_of_cut office book order) candidates
-    → IfOk result (λ credits. credits.items ≡ credits_of office book order)
+    → IfOk result (λ portions. credits_together portions.items ≡ credits_of office book order)
 
 -- the performances of a return that is kept are counted
 abbrev pub TalliesKept : List Row → Tally → Tally → Result (Unit {0}) RowFault → Type 0

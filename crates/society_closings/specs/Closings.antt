@@ -64,10 +64,6 @@ abbrev pub Marks : ℕ → Kind → Database → Database → Type 0
 Marks pool Performing old new = new ≡ old
 Marks pool Mechanical old new = Adds layout.mechanical_pools (mechanical_row pool ∷ []) old new
 
--- these lines are there, and then these credits' units are added
-abbrev pub PaysOut : List Row → List Credit → Database → Database → Type 0
-PaysOut lines credits old new = (mid : Database) × Adds layout.credits_table lines old mid × AddsEach credits mid new
-
 -- the row of an account by some credits
 abbrev pub row_of_account : List Credit → List ℕ → List Row
 row_of_account credits account = balance_rows_by account (filter (λ credit. bytes_eq account (account_text credit.account)) credits)
@@ -75,6 +71,18 @@ row_of_account credits account = balance_rows_by account (filter (λ credit. byt
 -- credits that come to the same balances, those of 0 units too
 abbrev pub ComeToTheSame : List Credit → List Credit → Type 0
 ComeToTheSame some others = (account : List ℕ) → row_of_account some account ≡ row_of_account others account
+
+-- the lines of credits of a pool, from this one on
+abbrev pub lines_from : ℕ → ℕ → List Credit → List Row
+lines_from pool first credits = map (λ line. credit_row pool line.0 line.1) (enumerate_from first credits)
+
+-- the lines of these credits of a pool are added, from 0 on, and these totals come to the same balances
+abbrev pub AddsLines : ℕ → List Credit → List Credit → Database → Database → Type 0
+AddsLines pool credits totals old new = Adds layout.credits_table (lines_from pool 0 credits) old new × ComeToTheSame totals credits
+
+-- the lines of these credits of a pool are added, and then the units that they come to
+abbrev pub PaysOut : ℕ → List Credit → Database → Database → Type 0
+PaysOut pool credits old new = (mid : Database) × (totals : List Credit) × AddsLines pool credits totals old mid × AddsEach totals mid new
 
 -- a pool is closed in the tables, and to balances that were as before the units are added that its credits come to
 abbrev pub ClosesWith : ℕ → Order → List Credit → Database → Database → Type 0

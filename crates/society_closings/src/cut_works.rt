@@ -35,13 +35,7 @@ fn add_shown(
     ensures blames { IfErr result (Blames (ShowTransmission sender.now rows.now → ⊥)) }
 {
     let versions = weigh_shown(weighing, sender, rows)?;
-    add_weighed(
-        weighing.alloc,
-        chosen,
-        number,
-        versions.as_slice(),
-        candidates,
-    )?;
+    add_weighed(chosen, number, versions.as_slice(), candidates)?;
     Ok(())
 }
 
@@ -64,7 +58,7 @@ fn add_transmission<S: Alter>(
         number,
     };
     if let Some(versions) = versions_lent(weighed, &at) {
-        add_weighed(weighing.alloc, chosen, number, versions, candidates)?;
+        add_weighed(chosen, number, versions, candidates)?;
         return Ok(());
     }
     let rows = answer(

@@ -7,6 +7,7 @@
 
 mod chosen;
 mod closings;
+mod credit_lines;
 mod cut_works;
 mod named_works;
 mod paying;
@@ -17,9 +18,10 @@ mod weighed_works;
 mod weighing;
 mod works_by_recording;
 
-pub use closings::{line_rows, texts_of};
+pub use credit_lines::{add_lines, line_rows, texts_of};
 pub use cut_works::candidates_in;
-pub use paying::{close, credits_in};
+pub use paying::{close, portions_in};
 pub use pool_works::PoolWorks;
 pub use wanted::Wanted;
+pub use weighing::place_after;
 pub use works_by_recording::WorksByRecording;

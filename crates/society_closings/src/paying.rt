@@ -1,5 +1,6 @@
 //! What a pool pays, worked out of the tables, and its closing in a transaction of its own.
 ghost use Rattle.std.specs.Prelude.{◌≡◌, ◌≤◌, [], List, ℕ, Option, length, unwrap_or, IfErr, OnOk, ⊤};
+ghost use Rattle.pool_split.specs.Credits.{credits_together};
 ghost use Rattle.perf_returns.specs.Returns.{performances_in};
 ghost use Rattle.society_core.specs.Orders.{IsOrder};
 ghost use Rattle.society_closings.specs.Closings.{ClosesPool, PaysAmong, PaysBy};
@@ -17,7 +18,7 @@ use crate::cut_works::candidates_in;
 use crate::pool_works::PoolWorks;
 use crate::wanted::Wanted;
 use perf_returns::{ReturnError, read_return};
-use pool_split::{Credit, are_payable, credits};
+use pool_split::{Portion, are_payable, portions};
 use share_rules::Office;
 use society_core::{Candidate, PoolOrder, ReturnKey, Tally, claims};
 use society_rows::{Idle, Question, ReturnRow, RowFault, answer};
@@ -76,13 +77,13 @@ pub(crate) fn tally_of<S: Alter>(
     Ok(tally)
 }
 
-// The credits of an order by the tally of its returns and the candidates for their recordings; `Unread` where these can't be paid.
-fn credits_by(
+// What an order pays by the tally of its returns and the candidates for their recordings; `Unread` where these can't be paid.
+fn portions_by(
     alloc: Global,
     tally: &Tally,
     candidates: &[Candidate],
     order: &PoolOrder,
-) -> Result<Vec<Credit>, RowFault>
+) -> Result<Vec<Portion>, RowFault>
     ensures pays { PaysByTally tally.now candidates.now order.now result }
     ensures blames { IfErr result (Blames (BelongNowhere tally.now candidates.now order.now)) }
 {
@@ -91,57 +92,57 @@ fn credits_by(
     if !are_payable(&claims) {
         return Err(RowFault::Unread);
     }
-    Ok(credits(alloc, order.amount(), &claims)?)
+    Ok(portions(alloc, order.amount(), &claims)?)
 }
 
 // What an order pays by the tables, by the tally of its returns and the works that are listed.
-fn credits_for<S: Alter>(
+fn portions_for<S: Alter>(
     alloc: Global,
     tx: &mut Transaction<'_, S>,
     office: &Office,
     order: &PoolOrder,
     tally: &Tally,
     works: &PoolWorks,
-) -> Result<Vec<Credit>, RowFault>
-    ensures looks { Within S.Store tx.old tx.new Looks result (λ db credits. PaysTallied office.now order.now tally.now works.now db credits.items) }
+) -> Result<Vec<Portion>, RowFault>
+    ensures looks { Within S.Store tx.old tx.new Looks result (λ db portions. PaysTallied office.now order.now tally.now works.now db (credits_together portions.items)) }
     ensures err { within S.Store tx.old tx.new (Errs (LackTallied office.now order.now tally.now works.now)) result }
 {
     let candidates = candidates_in(alloc, order.kind(), tx, office, tally, order, works)?;
-    credits_by(alloc, tally, &candidates, order)
+    portions_by(alloc, tally, &candidates, order)
 }
 
-/// What an order pays by the tables, out of works that are listed. Where the disk told the truth, and these are those that the order looks
-/// for, an error says that memory ran out, that a count has no room, that the medium may have failed, or that no book whose works the
-/// tables have can pay the order.
-pub fn credits_in<S: Alter>(
+/// What an order pays by the tables, a portion for each recording, out of works that are listed. Where the disk told the truth, and these
+/// are those that the order looks for, an error says that memory ran out, that a count has no room, that the medium may have failed, or
+/// that no book whose works the tables have can pay the order.
+pub fn portions_in<S: Alter>(
     alloc: Global,
     tx: &mut Transaction<'_, S>,
     office: &Office,
     order: &PoolOrder,
     works: &PoolWorks,
-) -> Result<Vec<Credit>, RowFault>
-    ensures looks { Within S.Store tx.old tx.new Looks result (λ db credits. PaysAmong office.now order.now works.now db credits.items) }
+) -> Result<Vec<Portion>, RowFault>
+    ensures looks { Within S.Store tx.old tx.new Looks result (λ db portions. PaysAmong office.now order.now works.now db (credits_together portions.items)) }
     ensures err { within S.Store tx.old tx.new (Errs (CannotPayAmong office.now order.now works.now)) result }
     ensures kept { IsOrder order.now }
 {
     let tally = tally_of(alloc, tx, order.returns())?;
-    credits_for(alloc, tx, office, order, &tally, works)
+    portions_for(alloc, tx, office, order, &tally, works)
 }
 
 // What an order pays by the tables.
-fn credits_of_order<S: Alter>(
+fn portions_of_order<S: Alter>(
     alloc: Global,
     tx: &mut Transaction<'_, S>,
     office: &Office,
     order: &PoolOrder,
-) -> Result<Vec<Credit>, RowFault>
-    ensures looks { Within S.Store tx.old tx.new Looks result (λ db credits. PaysBy office.now order.now db credits.items) }
+) -> Result<Vec<Portion>, RowFault>
+    ensures looks { Within S.Store tx.old tx.new Looks result (λ db portions. PaysBy office.now order.now db (credits_together portions.items)) }
     ensures kept { IsOrder order.now }
 {
     let mut wanted = Wanted::new(alloc);
     let tally = wanted.add_order(alloc, tx, order)?;
     let works = PoolWorks::of(alloc, wanted.works(alloc, tx)?);
-    credits_for(alloc, tx, office, order, &tally, &works)
+    portions_for(alloc, tx, office, order, &tally, &works)
 }
 
 // Closes a pool in a transaction.
@@ -154,8 +155,8 @@ fn close_inside<S: Alter>(
 ) -> Result<(), RowFault>
     ensures does { Within S.Store tx.old tx.new DoesOpen result (λ before after _. ClosesPool office.now pool order.now before.trees after.trees × ⊤) }
 {
-    let credits = credits_of_order(alloc, tx, office, order)?;
-    write_pool(alloc, tx, pool.value(), order, &credits)
+    let portions = portions_of_order(alloc, tx, office, order)?;
+    write_pool(alloc, tx, pool.value(), order, &portions)
 }
 
 /// Closes a pool in a transaction of its own.

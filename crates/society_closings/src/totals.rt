@@ -1,5 +1,5 @@
 //! What the credits of a pool come to, an account at a time.
-ghost use Rattle.std.specs.Prelude.{◌≡◌, ◌∷◌, ◌++◌, [], IfOk, IsPermutation, IsTrue};
+ghost use Rattle.std.specs.Prelude.{◌≡◌, ◌∷◌, ◌++◌, [], IfOk, IsPermutation, IsTrue, OnOk};
 ghost use Rattle.society_closings.specs.Closings.{ComeToTheSame};
 
 use pool_split::Credit;
@@ -57,10 +57,51 @@ fn by_account(alloc: Global, credits: &[Credit]) -> Result<Vec<Credit>, AllocErr
     Ok(sorted)
 }
 
-/// The totals of credits, one for each account: they come to the same balances. So each balance is read and put once.
-pub(crate) fn totals_of(alloc: Global, credits: &[Credit]) -> Result<Vec<Credit>, RowFault>
+// The totals of credits, one for each account: they come to the same balances.
+fn totals_of(alloc: Global, credits: &[Credit]) -> Result<Vec<Credit>, RowFault>
     ensures { IfOk result (λ totals. ComeToTheSame totals.items credits.now) }
 {
     let sorted = by_account(alloc, credits)?;
     totals_of_runs(alloc, &sorted)
+}
+
+/// What the credits of a pool come to so far: credits of no recording that come to the same balances. They are brought together, one for
+/// each account, once they are twice as many as they were then.
+#[derive(Drop)]
+pub(crate) struct PoolTotals {
+    alloc: Global,
+    list: Vec<Credit>,
+    brought: usize,
+}
+
+impl PoolTotals {
+    /// Those of no credit.
+    pub(crate) fn new(alloc: Global) -> PoolTotals
+        ensures { result.list.items ≡ [] }
+    {
+        PoolTotals {
+            alloc,
+            list: Vec::new(alloc),
+            brought: 0,
+        }
+    }
+
+    /// Adds some credits; `Memory` where memory was refused, `Overflow` where an account's units do not fit.
+    pub(crate) fn add(&mut self, credits: &[Credit]) -> Result<(), RowFault>
+        ensures { OnOk result (ComeToTheSame self.new.list.items (self.old.list.items ++ credits.now)) }
+    {
+        self.list.extend_from_slice(credits)?;
+        if self.list.len() / 2 > self.brought {
+            self.list = totals_of(self.alloc, &self.list)?;
+            self.brought = self.list.len();
+        }
+        Ok(())
+    }
+
+    /// One total for each account. So each balance is read and put once.
+    pub(crate) fn into_list(self) -> Result<Vec<Credit>, RowFault>
+        ensures { IfOk result (λ totals. ComeToTheSame totals.items self.list.items) }
+    {
+        totals_of(self.alloc, &self.list)
+    }
 }

@@ -9,12 +9,11 @@ ghost use Rattle.society_closings.specs.Weighing.{WeighsBy, claimants_by, claima
 
 use crate::chosen::Chosen;
 use cwr_files::{Transaction, Transmission};
-use pool_split::Holders;
 use society_book::transmission_of;
 use society_core::{Candidate, Weighing, add_candidates};
 use society_rows::RowFault;
 use sqlite::Row;
-use std::alloc::{AllocError, Global};
+use std::alloc::AllocError;
 use work_ids::{SenderKey, TransmissionNumber, WorkNumber};
 
 /// A version of a work: where its transaction stands in its transmission, the work's number, and the candidates that it makes.
@@ -51,8 +50,8 @@ fn weigh_transaction(
     Ok(())
 }
 
-// The place behind so many transactions; `Overflow` where it has no room.
-fn place_after(place: usize, count: usize) -> Result<usize, RowFault>
+/// The place behind so many; `Overflow` where it has no room.
+pub fn place_after(place: usize, count: usize) -> Result<usize, RowFault>
     ensures after { IfOk result (λ after. after ≡ place + count) }
     ensures blames { IfErr result (Blames ⊥) }
 {
@@ -114,35 +113,29 @@ pub(crate) fn weigh_shown(
 }
 
 // A candidate once more.
-fn copy_of(alloc: Global, candidate: &Candidate) -> Result<Candidate, AllocError>
+fn copy_of(candidate: &Candidate) -> Result<Candidate, AllocError>
     ensures { IfOk result (λ copy. copy ≡ candidate.now) }
 {
-    let holders = Vec::from_slice(alloc, candidate.holders.as_slice())?;
     Ok(Candidate {
         isrc: candidate.isrc,
         sender: candidate.sender,
         work: candidate.work,
-        holders: Holders::from_vec(holders),
+        holders: candidate.holders.share()?,
     })
 }
 
 // Appends these candidates once more.
-fn append_copies(
-    alloc: Global,
-    some: &[Candidate],
-    candidates: &mut Vec<Candidate>,
-) -> Result<(), AllocError>
+fn append_copies(some: &[Candidate], candidates: &mut Vec<Candidate>) -> Result<(), AllocError>
     ensures { OnOk result (candidates.new.items ≡ candidates.old.items ++ some.now) }
 {
     for candidate in some {
-        candidates.push(copy_of(alloc, candidate)?)?;
+        candidates.push(copy_of(candidate)?)?;
     }
     Ok(())
 }
 
 // Adds the candidates of a version, where it is the one that is chosen of its work.
 fn add_version(
-    alloc: Global,
     chosen: &Chosen,
     number: TransmissionNumber,
     version: &WeighedVersion,
@@ -153,12 +146,11 @@ fn add_version(
     if !chosen.is_at(&version.work, number, version.place) {
         return Ok(());
     }
-    append_copies(alloc, version.candidates.as_slice(), candidates)
+    append_copies(version.candidates.as_slice(), candidates)
 }
 
 /// Adds the candidates of those of a transmission's versions that are chosen.
 pub(crate) fn add_weighed(
-    alloc: Global,
     chosen: &Chosen,
     number: TransmissionNumber,
     versions: &[WeighedVersion],
@@ -167,7 +159,7 @@ pub(crate) fn add_weighed(
     ensures { OnOk result ((isrc : List ℕ) → claimants_among candidates.new.items isrc ≡ claimants_among candidates.old.items isrc ++ claimants_chosen chosen.now number isrc versions.now) }
 {
     for version in versions {
-        add_version(alloc, chosen, number, version, candidates)?;
+        add_version(chosen, number, version, candidates)?;
     }
     Ok(())
 }

@@ -18,7 +18,7 @@ use crate::points::Tally;
 use crate::transmission_key::TransmissionKey;
 use cwr_files::Transaction;
 use pool_split::Holders;
-use share_rules::{Holder, Kind, Office, weights};
+use share_rules::{Kind, Office, weights};
 use std::alloc::{AllocError, Global};
 use std::collections::BTreeSet;
 use work_ids::{Isrc, SenderKey, TransmissionNumber, WorkNumber};
@@ -62,22 +62,20 @@ fn tallied_isrcs(
 
 // Adds the candidates that a work makes for these recordings, each with these holders.
 fn append_candidates(
-    alloc: Global,
     sender: &SenderKey,
     work: &WorkNumber,
-    holders: &[Holder],
+    holders: &Holders,
     isrcs: &[Isrc],
     candidates: &mut Vec<Candidate>,
 ) -> Result<(), AllocError>
     ensures { OnOk result (AppendsCandidates sender.now work.now holders.now isrcs.now candidates.old.items candidates.new.items) }
 {
     for isrc in isrcs {
-        let copies = Vec::from_slice(alloc, holders)?;
         candidates.push(Candidate {
             isrc: *isrc,
             sender: *sender,
             work: *work,
-            holders: Holders::from_vec(copies),
+            holders: holders.share()?,
         })?;
     }
     Ok(())
@@ -98,14 +96,15 @@ pub fn add_candidates(
     if named.is_empty() {
         return Ok(());
     }
-    let holders = weights(
+    let list = weights(
         weighing.alloc,
         weighing.kind,
         sender,
         transaction,
         weighing.office,
     )?;
-    append_candidates(weighing.alloc, sender, work, &holders, &named, candidates)
+    let holders = Holders::from_vec(weighing.alloc, list)?;
+    append_candidates(sender, work, &holders, &named, candidates)
 }
 
 // Whether the version that a work has at a cut is the transaction at this place of this transmission.

@@ -62,7 +62,6 @@ fn sole_candidate<'a>(
 
 // The claim of a recording with its points.
 fn claim_among(
-    alloc: Global,
     found: &BTreeMap<Isrc, Found>,
     candidates: &[Candidate],
     played: &(Isrc, u64),
@@ -72,10 +71,7 @@ fn claim_among(
 {
     let holders = match sole_candidate(found, candidates, &played.0) {
         None => None,
-        Some(candidate) => {
-            let copies = Vec::from_slice(alloc, candidate.holders.as_slice())?;
-            Some(Holders::from_vec(copies))
-        }
+        Some(candidate) => Some(candidate.holders.share()?),
     };
     Ok(Claim {
         isrc: played.0,
@@ -96,7 +92,7 @@ pub fn claims(
     let found = found_by_isrc(alloc, candidates)?;
     let mut claims = Vec::with_capacity(alloc, points.len())?;
     for played in points {
-        claims.push(claim_among(alloc, &found, candidates, played)?)?;
+        claims.push(claim_among(&found, candidates, played)?)?;
     }
     Ok(claims)
 }

@@ -3,10 +3,10 @@ ghost use Rattle.std.specs.Prelude.{◌≤◌, IsTrue, sum};
 
 use crate::shares::tell_account;
 use crate::told::Told;
-use crate::words::first_word;
 use pool_split::{Claim, Credit, Holders, are_payable, credits, split};
 use share_rules::Holder;
 use std::alloc::Global;
+use test_sheets::first_word;
 use work_ids::{Account, Isrc};
 
 /// The most that weights may come to.
@@ -93,7 +93,7 @@ fn holders_of(alloc: Global, pairs: &str) -> Option<Holders> {
             return None;
         }
     }
-    Some(Holders::from_vec(holders))
+    Holders::from_vec(alloc, holders).ok()
 }
 
 /// The claim of a line: an ISRC, its points, and its holders, if it has any.

@@ -3,3 +3,4 @@ pub mod Finding
 pub mod FirstColumns
 pub mod Payable
 pub mod WorksListed
+pub mod Portions

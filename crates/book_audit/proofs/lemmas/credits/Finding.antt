@@ -17,7 +17,7 @@ use Rattle.book_audit.proofs.lemmas.credits.Payable.{payable}
 
 module _ (o : Office) (db : Trees) (pool : ℕ) (order : Order) (number : ℕ) (works : PoolWorks) (credits paid : List Credit) (number_is : number ≡ pool) (same : credits ≡ paid) where
   -- where its lines are not always those of what it pays, there is no book with this pool
-  pub no_pool : PaysAmong o order works db paid → IsNot (ListsOnly number (credit_lines number credits)) db → HasNoPool o pool order works db
+  pub no_pool : PaysAmong o order works db paid → IsNot (ListsOnly number credits) db → HasNoPool o pool order works db
   no_pool pays differ listed b holds is =
       let can = payable o b db holds pool order is in
       differ

@@ -3,6 +3,7 @@ use Rattle.std.proofs.lemmas.List.{take_all}
 use Rattle.std.specs.declared.alloc.Global.{Global}
 use Rattle.sqlite.specs.Held.{state}
 use Rattle.sqlite_trees.specs.Tree.{Trees}
+use Rattle.pool_split.specs.Credits.{credits_together}
 use Rattle.pool_split.specs.declared.claim.Credit.{Credit}
 use Rattle.society_closings.specs.Blamed.{CannotPayAmong}
 use Rattle.book_audit.specs.Paying.{ListsForAll}
@@ -26,8 +27,8 @@ loop-one-init g c =
       derives = derives_nothing (CannotPayListed o closed works) old tt (λ before after (done : Unit {0}). ListsForAll o closed before works → WritesSome o closed [] before after totals) (λ listed. none_written o closed old.now.trees totals c.new-totals.ensures);
     }
 
-pub returns-in_err-credits : goal.returns-in_err-credits
-returns-in_err-credits g c = record {
+pub returns-in_err-portions : goal.returns-in_err-portions
+returns-in_err-portions g c = record {
   derives = record {
     same_reference = search rules;
     says =
@@ -43,14 +44,14 @@ returns-in_err-credits g c = record {
         let r = c.from_residual.result in
         let Nothing : Trees → Trees → Totals → Type 0 = λ before after done. ⊥ in
         derives_then (CannotPayListed o closed works) (CannotPayAmong o one.order works) (CannotPayListed o closed works) old mid new tt r (λ before after (done : Unit {0}). ListsForAll o closed before works → WritesSome o closed (take i closed) before after totals) Nothing (WritesListed o closed works) c.loop-one.invariant.derives
-        (derives_not {X = Vec Credit Global} (CannotPayAmong o one.order works) (CannotPayAmong o one.order works) mid new c.in_err-credits.field-0.0 r (λ before after credits. WritesPool o one.pool one.order works before after credits.items) Nothing c.in_err-credits.ensures.derives.says c.from_residual.ensures.1 (λ cannot. cannot))
+        (derives_not {X = Vec (List Credit) Global} (CannotPayAmong o one.order works) (CannotPayAmong o one.order works) mid new c.in_err-portions.field-0.0 r (λ before after credits. WritesPool o one.pool one.order works before after (credits_together credits.items)) Nothing c.in_err-portions.ensures.derives.says c.from_residual.ensures.1 (λ cannot. cannot))
         (λ y own later before never. absurd never)
         (λ own before cannot listed. not_all o closed works i one c.loop-one-test.true c.one-item.is old.now.trees mid.now.trees totals listed (before listed) cannot);
   };
 }
 
-pub returns-in_err-add : goal.returns-in_err-add
-returns-in_err-add g c = record {
+pub returns-in_err-add_portions : goal.returns-in_err-add_portions
+returns-in_err-add_portions g c = record {
   derives = record {
     same_reference = search rules;
     says =
@@ -63,12 +64,12 @@ returns-in_err-add g c = record {
         let old = state g.S.Store c.args.tx.now.conn.now in
         let mid = state g.S.Store c.loop-one.tx.conn.now in
         let new = state g.S.Store c.write_pool.new.tx.conn.now in
-        let r = c.from_residual-in_err-add.result in
+        let r = c.from_residual-in_err-add_portions.result in
         let Nothing : Trees → Trees → Totals → Type 0 = λ before after done. ⊥ in
         derives_then (CannotPayListed o closed works) (CannotPayAmong o one.order works) (CannotPayListed o closed works) old mid new tt r (λ before after (done : Unit {0}). ListsForAll o closed before works → WritesSome o closed (take i closed) before after totals) Nothing (WritesListed o closed works) c.loop-one.invariant.derives
-        (derives_as (CannotPayAmong o one.order works) (CannotPayAmong o one.order works) mid new c.in_ok-credits.credits r (λ before after (credits : Vec Credit Global). WritesPool o one.pool one.order works before after credits.items) Nothing c.in_ok-credits.ensures.derives.says
-        (λ writes. no_answer r _ _ c.from_residual-in_err-add.ensures.1)
-        (λ writes. judges_on r c.in_err-add.field-0.0 ⊥ (CannotPayAmong o one.order works mid.now.trees) c.from_residual-in_err-add.ensures.1 c.in_err-add.ensures.judged (λ never. absurd never)))
+        (derives_as (CannotPayAmong o one.order works) (CannotPayAmong o one.order works) mid new c.in_ok-portions.portions r (λ before after (credits : Vec (List Credit) Global). WritesPool o one.pool one.order works before after (credits_together credits.items)) Nothing c.in_ok-portions.ensures.derives.says
+        (λ writes. no_answer r _ _ c.from_residual-in_err-add_portions.ensures.1)
+        (λ writes. judges_on r c.in_err-add_portions.field-0.0 ⊥ (CannotPayAmong o one.order works mid.now.trees) c.from_residual-in_err-add_portions.ensures.1 c.in_err-add_portions.ensures.judged (λ never. absurd never)))
         (λ y own later before never. absurd never)
         (λ own before cannot listed. not_all o closed works i one c.loop-one-test.true c.one-item.is old.now.trees mid.now.trees totals listed (before listed) cannot);
   };
@@ -85,16 +86,16 @@ loop-one-preserved g c =
     let old = state g.S.Store c.args.tx.now.conn.now in
     let mid = state g.S.Store c.loop-one.tx.conn.now in
     let new = state g.S.Store c.write_pool.new.tx.conn.now in
-    let credits = c.in_ok-credits.credits in
-    let Pays : Trees → Trees → Unit {0} → Type 0 = λ before after done. WritesPool o one.pool one.order works before after credits.items in
+    let portions = c.in_ok-portions.portions in
+    let Pays : Trees → Trees → Unit {0} → Type 0 = λ before after done. WritesPool o one.pool one.order works before after (credits_together portions.items) in
     record {
       same_reference = c.write_pool.ensures.derives.same_reference ∙ c.loop-one.invariant.same_reference;
       derives =
           derives_then (CannotPayListed o closed works) (CannotPayAmong o one.order works) (CannotPayListed o closed works) old mid new tt (Ok tt) (λ before after (done : Unit {0}). ListsForAll o closed before works → WritesSome o closed (take i closed) before after totals) Pays
-          (λ before after done. ListsForAll o closed before works → WritesSome o closed (take (i + 1) closed) before after c.add.new.self) c.loop-one.invariant.derives
-          (derives_as (CannotPayAmong o one.order works) (CannotPayAmong o one.order works) mid new credits (Ok tt) (λ before after (paid : Vec Credit Global). WritesPool o one.pool one.order works before after paid.items) Pays c.in_ok-credits.ensures.derives.says (λ writes. writes) (λ writes. tt))
+          (λ before after done. ListsForAll o closed before works → WritesSome o closed (take (i + 1) closed) before after c.add_portions.new.self) c.loop-one.invariant.derives
+          (derives_as (CannotPayAmong o one.order works) (CannotPayAmong o one.order works) mid new portions (Ok tt) (λ before after (paid : Vec (List Credit) Global). WritesPool o one.pool one.order works before after (credits_together paid.items)) Pays c.in_ok-portions.ensures.derives.says (λ writes. writes) (λ writes. tt))
           (λ y own later before writes listed.
-          some_more o closed works i one c.loop-one-test.true c.one-item.is old.now.trees mid.now.trees totals listed (before listed) c.add.new.self new.now.trees credits.items writes (rw c.as_slice.ensures.value at c.in_ok-add.ensures.added))
+          some_more o closed works i one c.loop-one-test.true c.one-item.is old.now.trees mid.now.trees totals listed (before listed) c.add_portions.new.self new.now.trees (credits_together portions.items) writes (rw c.as_slice.ensures.value at c.in_ok-add_portions.ensures.added))
           (λ own before cannot listed. not_all o closed works i one c.loop-one-test.true c.one-item.is old.now.trees mid.now.trees totals listed (before listed) cannot);
     }
 

@@ -1,6 +1,6 @@
-use Rattle.std.proofs.Common.{Ok, rules}
+use Rattle.std.proofs.Common.{rules}
 use Rattle.sqlite.specs.Held.{state}
-use Rattle.society_book.proofs.lemmas.together.StepLemmas.{does_of, does_then}
+use Rattle.society_book.proofs.lemmas.together.StepLemmas.{does_then}
 use Rattle.society_closings.proofs.closings.pay_out.Goals as goal
 
 pub returns : goal.returns
@@ -9,9 +9,9 @@ returns g c = record {
     same_reference = search rules;
     says =
         let old = state g.S.Store c.args.tx.now.conn.now in
-        let mid = state g.S.Store c.add_all.new.tx.conn.now in
+        let mid = state g.S.Store c.add_lines.new.tx.conn.now in
         let new = state g.S.Store c.add_balances.new.tx.conn.now in
-        does_then old mid new _ c.add_balances.result _ _ _ (does_of old mid (Ok _) _ c.in_ok-add_all.ensures.written.says (λ before after adds. adds.layout)) c.add_balances.ensures.does.says
-        (λ y first second. (mid.now, first, second));
+        does_then old mid new c.in_ok-totals.totals c.add_balances.result _ _ _ c.in_ok-totals.ensures.does.says (rw c.as_slice.ensures.value at c.add_balances.ensures.does.says)
+        (λ y first second. (mid.now, c.in_ok-totals.totals.items, first, second));
   };
 }

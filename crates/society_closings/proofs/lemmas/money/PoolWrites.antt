@@ -3,7 +3,7 @@ use Rattle.std.proofs.Common.{◌≡◌, ◌≢◌, ◌∙◌, ◌+◌, ◌++◌
 use Rattle.std.proofs.Math.Seq.{take-suc}
 use Rattle.std.proofs.lemmas.List.{length-take}
 use Rattle.std.proofs.lemmas.Option.{slice_get-map}
-use Rattle.std.specs.List.{AllByRecursion, enumerate_from, slice_get}
+use Rattle.std.specs.List.{AllByRecursion, slice_get}
 use Rattle.std.proofs.lemmas.List.Sorted.{IsPermutation-append_right, IsPermutation-trans}
 use Rattle.sqlite.specs.Effect.{Database}
 use Rattle.sqlite_schema.specs.declared.schema.Table.{Table}
@@ -18,7 +18,7 @@ use Rattle.share_rules.specs.declared.kind.Kind.{Kind}
 use Rattle.share_rules.specs.declared.kind.Kind.TheVariants.{Performing, Mechanical}
 use Rattle.society_core.specs.Orders.{Order}
 use Rattle.society_book.specs.BookRows.{cut_row, marks_of, mechanical_row, paid_row, pool_row}
-use Rattle.society_closings.specs.Closings.{AddsOrder, ClosesWith, ComeToTheSame, Marks, AddsEach}
+use Rattle.society_closings.specs.Closings.{AddsOrder, ClosesWith, ComeToTheSame, Marks, AddsEach, lines_from}
 use Rattle.society_book.specs.DerivedRows.{credit_row}
 use Rattle.society_book.proofs.lemmas.rows_alike.KeptTables.{rows_kept, same_permutation, KeptBut, both_of, permuted_from, permuted_to, each_of}
 use Rattle.work_ids.specs.Account.{account_text}
@@ -81,13 +81,18 @@ each_next (x ∷ done) credit old mid new each one = (each.0, each.1, each_next 
 pub take_next : {X : Type 0} (xs : List X) (i : ℕ) (x : X) → i < length xs → x ≡ get_or xs i x → take (i + 1) xs ≡ take i xs ++ x ∷ []
 take_next {X} xs i x h is = rw (add-one, take-suc xs i x h) (ap (λ (y : X). take i xs ++ y ∷ []) (sym is))
 
--- one line more behind some
-pub lines_next : (pool from : ℕ) (xs : List Credit) (x : Credit) → map (λ l. credit_row pool l.0 l.1) (enumerate_from from (xs ++ x ∷ [])) ≡ map (λ l. credit_row pool l.0 l.1) (enumerate_from from xs) ++ credit_row pool (from + length xs) x ∷ []
-lines_next pool from [] x = ap (λ (k : ℕ). credit_row pool k x ∷ []) (let e : from ≡ from + 0 = omega arith in e)
-lines_next pool from (y ∷ xs) x =
-    ap (λ (l : List Row). credit_row pool from y ∷ l)
-    (lines_next pool (from + 1) xs x
-    ∙ ap (λ (k : ℕ). map (λ l. credit_row pool l.0 l.1) (enumerate_from (from + 1) xs) ++ credit_row pool k x ∷ []) (let e : (from + 1) + length xs ≡ from + suc (length xs) = omega arith in e))
+-- lines behind others
+pub lines_behind : (pool from : ℕ) (xs ys : List Credit) → lines_from pool from (xs ++ ys) ≡ lines_from pool from xs ++ lines_from pool (from + length xs) ys
+lines_behind pool from [] ys = ap (λ (k : ℕ). lines_from pool k ys) (let e : from ≡ from + 0 = omega arith in e)
+lines_behind pool from (x ∷ xs) ys =
+    ap (λ (l : List Row). credit_row pool from x ∷ l)
+    (lines_behind pool (from + 1) xs ys
+    ∙ ap (λ (k : ℕ). lines_from pool (from + 1) xs ++ lines_from pool k ys) (let e : (from + 1) + length xs ≡ from + suc (length xs) = omega arith in e))
+
+-- so behind all lines from 0 on
+pub lines_after : (pool : ℕ) (xs ys : List Credit) → lines_from pool 0 (xs ++ ys) ≡ lines_from pool 0 xs ++ lines_from pool (length xs) ys
+lines_after pool xs ys =
+    lines_behind pool 0 xs ys ∙ ap (λ (k : ℕ). lines_from pool 0 xs ++ lines_from pool k ys) (let e : 0 + length xs ≡ length xs = omega arith in e)
 
 -- the element at a place of a list that is mapped as another
 pub mapped_at : {X Y Z : Type 0} (f : X → Z) (h : Y → Z) (xs : List X) (ys : List Y) (i : ℕ) (x : X) (y : Y) → map f xs ≡ map h ys → slice_get xs i ≡ Some x → slice_get ys i ≡ Some y → f x ≡ h y
@@ -111,7 +116,7 @@ KeptOfPool old new t = t.tree ≢ layout.pools.tree → t.tree ≢ layout.pool_c
 
 -- an order, and then the lines of its credits, and then their units
 pub closes_by : (pool : ℕ) (order : Order) (cs totals : List Credit) (old mid late new : Database) → AddsOrder (pool_row pool order) (map (cut_row pool) order.cut) (map (paid_row pool) order.returns) (marks_of pool order.kind) old.trees mid.trees
-    → Adds layout.credits_table (map (λ line. credit_row pool line.0 line.1) (enumerate_from 0 cs)) mid late → ComeToTheSame totals cs → AddsEach totals late new → ClosesWith pool order cs old new
+    → Adds layout.credits_table (lines_from pool 0 cs) mid late → ComeToTheSame totals cs → AddsEach totals late new → ClosesWith pool order cs old new
 unfolding all_tables written_out
 closes_by pool order cs totals old mid late new ordered lines same each =
     let first = each_of (KeptOfOrder old.trees mid.trees) ordered.others in
@@ -123,8 +128,8 @@ closes_by pool order cs totals old mid late new ordered lines same each =
         cuts = permuted_to (map (cut_row pool) order.cut ++ rows_in layout.pool_cuts old.trees) _ _ (rows_kept layout.pool_cuts mid.trees new.trees (third.pool_cuts (λ e. omega (arith, e)) ∙ second.pool_cuts (λ e. omega (arith, e)))) ordered.cuts;
         paid = permuted_to (map (paid_row pool) order.returns ++ rows_in layout.pool_returns old.trees) _ _ (rows_kept layout.pool_returns mid.trees new.trees (third.pool_returns (λ e. omega (arith, e)) ∙ second.pool_returns (λ e. omega (arith, e)))) ordered.returns;
         marks = permuted_to (marks_of pool order.kind ++ rows_in layout.mechanical_pools old.trees) _ _ (rows_kept layout.mechanical_pools mid.trees new.trees (third.mechanical (λ e. omega (arith, e)) ∙ second.mechanical (λ e. omega (arith, e)))) ordered.marks;
-        lines = permuted_to (map (λ line. credit_row pool line.0 line.1) (enumerate_from 0 cs) ++ rows_in layout.credits_table old.trees) _ _ (rows_kept layout.credits_table late.trees new.trees (third.credits (λ e. omega (arith, e))))
-            (permuted_from (map (λ line. credit_row pool line.0 line.1) (enumerate_from 0 cs)) _ _ _ (rows_kept layout.credits_table old.trees mid.trees (first.credits (λ e. omega (arith, e)) (λ e. omega (arith, e)) (λ e. omega (arith, e)) (λ e. omega (arith, e)))) lines.rows);
+        lines = permuted_to (lines_from pool 0 cs ++ rows_in layout.credits_table old.trees) _ _ (rows_kept layout.credits_table late.trees new.trees (third.credits (λ e. omega (arith, e))))
+            (permuted_from (lines_from pool 0 cs) _ _ _ (rows_kept layout.credits_table old.trees mid.trees (first.credits (λ e. omega (arith, e)) (λ e. omega (arith, e)) (λ e. omega (arith, e)) (λ e. omega (arith, e)))) lines.rows);
         others = both_of (KeptOfOrder old.trees mid.trees) (λ t. t.tree ≢ layout.credits_table.tree → t.tree ≢ layout.balances.tree → new.trees t.tree ≡ mid.trees t.tree) (KeptOfPool old.trees new.trees) all_tables (λ t p q x y z m v w. q v w ∙ p x y z m) ordered.others
             (both_of (KeptBut layout.credits_table mid.trees late.trees) (KeptBut layout.balances late.trees new.trees) (λ t. t.tree ≢ layout.credits_table.tree → t.tree ≢ layout.balances.tree → new.trees t.tree ≡ mid.trees t.tree) all_tables (λ t p q v w. q w ∙ p v) lines.others kept);
       },
@@ -136,10 +141,9 @@ closes_by pool order cs totals old mid late new ordered lines same each =
     )
 
 -- the lines up to a place, and that at the place
-pub lines_to : (pool : ℕ) (xs : List Credit) (i : ℕ) (x : Credit) → i < length xs → x ≡ get_or xs i x
-    → map (λ l. credit_row pool l.0 l.1) (enumerate_from 0 (take i xs)) ++ credit_row pool i x ∷ [] ≡ map (λ l. credit_row pool l.0 l.1) (enumerate_from 0 (take (i + 1) xs))
-lines_to pool xs i x here is =
-    let many : i ≡ 0 + length (take i xs) = omega (arith, length-take i xs) in
-    ap (λ (k : ℕ). map (λ l. credit_row pool l.0 l.1) (enumerate_from 0 (take i xs)) ++ credit_row pool k x ∷ []) many
-    ∙ sym (lines_next pool 0 (take i xs) x)
-    ∙ ap (λ (l : List Credit). map (λ z. credit_row pool z.0 z.1) (enumerate_from 0 l)) (sym (take_next xs i x here is))
+pub lines_to : (pool from : ℕ) (xs : List Credit) (i : ℕ) (x : Credit) → i < length xs → x ≡ get_or xs i x → lines_from pool from (take i xs) ++ credit_row pool (from + i) x ∷ [] ≡ lines_from pool from (take (i + 1) xs)
+lines_to pool from xs i x here is =
+    let many : i ≡ length (take i xs) = omega (arith, length-take i xs) in
+    ap (λ (k : ℕ). lines_from pool from (take i xs) ++ credit_row pool (from + k) x ∷ []) many
+    ∙ sym (lines_behind pool from (take i xs) (x ∷ []))
+    ∙ ap (lines_from pool from) (sym (take_next xs i x here is))

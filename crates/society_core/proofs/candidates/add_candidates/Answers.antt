@@ -8,5 +8,5 @@ use Rattle.works_core.specs.Recordings.{isrcs_of}
 
 pub returns : goal.returns
 returns c =
-    added_by (is_tallied c.args.weighing.now.tally.now) c.args.sender.now c.args.work.now (holders_of c.args.weighing.now.kind c.args.weighing.now.office.now (cut_work c.args.sender.now c.args.transaction.now)) (isrcs_of c.args.transaction.now) c.in_ok-named.named.items c.deref.result.now c.deref-2.result.now c.args.candidates.now.items c.append_candidates.new.candidates.items c.append_candidates.result
-    (c.in_ok-named.ensures) (c.deref.ensures.value ∙ c.in_ok-holders.ensures.weights) c.deref-2.ensures.value c.append_candidates.ensures
+    added_by (is_tallied c.args.weighing.now.tally.now) c.args.sender.now c.args.work.now (holders_of c.args.weighing.now.kind c.args.weighing.now.office.now (cut_work c.args.sender.now c.args.transaction.now)) (isrcs_of c.args.transaction.now) c.in_ok-named.named.items c.in_ok-holders.holders c.deref.result.now c.args.candidates.now.items c.append_candidates.new.candidates.items c.append_candidates.result
+    (c.in_ok-named.ensures) (c.in_ok-holders.ensures ∙ c.in_ok-list.ensures.weights) c.deref.ensures.value c.append_candidates.ensures

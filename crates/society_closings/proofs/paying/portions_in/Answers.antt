@@ -8,7 +8,7 @@ use Rattle.society_core.specs.Points.{Tallies}
 use Rattle.society_core.specs.declared.points.Tally.{Tally}
 use Rattle.society_core.specs.declared.return_key.ReturnKey.{ReturnKey}
 use Rattle.sqlite.specs.Held.{state}
-use Rattle.society_closings.proofs.paying.credits_in.Goals as goal
+use Rattle.society_closings.proofs.paying.portions_in.Goals as goal
 
 pub returns-clause-looks : goal.returns-clause-looks
 returns-clause-looks g c = record {
@@ -19,7 +19,7 @@ returns-clause-looks g c = record {
       let tally = c.in_ok-tally.tally in
       let works = c.args.works.now in
       let old = state g.S.Store c.args.tx.now.conn.now in
-      looks_then old (state g.S.Store c.tally_of.new.tx.conn.now) (state g.S.Store c.credits_for.new.tx.conn.now) tally c.credits_for.result _ _ _ c.in_ok-tally.ensures.looks.says c.credits_for.ensures.looks.says
+      looks_then old (state g.S.Store c.tally_of.new.tx.conn.now) (state g.S.Store c.portions_for.new.tx.conn.now) tally c.portions_for.result _ _ _ c.in_ok-tally.ensures.looks.says c.portions_for.ensures.looks.says
       (λ y tallied pays lists b holds reached.
       let its = subst (λ (ks : List ReturnKey). Tallies tally (flat_map (rows_of_return b) ks)) c.returns.ensures.value (tallied o b holds c.returns.ensures.limit).0 in
       pays (lists_tallied o b order old.now.trees works tally holds its lists) lists.1 b holds reached its);
@@ -39,7 +39,7 @@ returns-clause-err g c =
     let tally = c.in_ok-tally.tally in
     let works = c.args.works.now in
     let old = state g.S.Store c.args.tx.now.conn.now in
-    errs_then (LackTallied o order tally works) (CannotPayAmong o order works) old (state g.S.Store c.tally_of.new.tx.conn.now) (state g.S.Store c.credits_for.new.tx.conn.now) tally c.credits_for.result _ c.in_ok-tally.ensures.looks.says c.credits_for.ensures.looks.says.survives c.credits_for.ensures.err
+    errs_then (LackTallied o order tally works) (CannotPayAmong o order works) old (state g.S.Store c.tally_of.new.tx.conn.now) (state g.S.Store c.portions_for.new.tx.conn.now) tally c.portions_for.result _ c.in_ok-tally.ensures.looks.says c.portions_for.ensures.looks.says.survives c.portions_for.ensures.err
     (λ tallied no lists b holds pays.
     let its = tallied o b holds c.returns.ensures.limit in
     let counted = subst (λ (ks : List ReturnKey). Tallies tally (flat_map (rows_of_return b) ks)) c.returns.ensures.value its.0 in

@@ -9,7 +9,7 @@ use Rattle.society_core.specs.Claims.{claims_among}
 use Rattle.society_core.specs.Keys.{bytes_cmp}
 use Rattle.society_core.specs.Points.{is_tallied, points_by_recording, rows_named}
 use Rattle.society_core.specs.Pools.{claims_of, credits_of}
-use Rattle.society_closings.proofs.paying.credits_by.Goals as goal
+use Rattle.society_closings.proofs.paying.portions_by.Goals as goal
 
 pub returns-clause-pays : goal.returns-clause-pays
 unfolding credits_of
@@ -23,7 +23,7 @@ returns-clause-pays c office book tallied stand =
     ∙ c.in_ok-claims.ensures
     ∙ ap (λ (xs : List (List ℕ × ℕ)). claims_among xs c.args.candidates.now) (c.deref.ensures.value ∙ c.in_ok-points.ensures rows tallied)
     ∙ claims_are office book order order.kind refl c.args.candidates.now (is_tallied tally) ps (recordings_tallied tally rows tallied) stand in
-    c.in_ok-credits.ensures.credits ∙ (ap (λ (n : ℕ). credits n c.deref-3.result.now) c.amount.ensures.value ∙ ap (credits order.amount) same)
+    c.in_ok-portions.ensures ∙ (ap (λ (n : ℕ). credits n c.deref-3.result.now) c.amount.ensures.value ∙ ap (credits order.amount) same)
 
 pub returns-then-not-are_payable-clause-blames : goal.returns-then-not-are_payable-clause-blames
 returns-then-not-are_payable-clause-blames c office book tallied few stand =

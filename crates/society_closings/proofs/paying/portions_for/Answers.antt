@@ -1,6 +1,7 @@
 use Rattle.std.proofs.Common.{◌≡◌, subst, sym, rules}
 use Rattle.std.specs.Prelude.{Vec}
 use Rattle.std.specs.declared.alloc.Global.{Global}
+use Rattle.pool_split.specs.Credits.{credits_together}
 use Rattle.share_rules.specs.declared.kind.Kind.{Kind}
 use Rattle.society_book.proofs.lemmas.together.ErrLemmas.{blames_where, errs_as, errs_on}
 use Rattle.society_book.proofs.lemmas.together.StepLemmas.{looks_as, more}
@@ -16,7 +17,7 @@ use Rattle.society_core.specs.Points.{Tallies, is_tallied, rows_named}
 use Rattle.society_core.specs.Pools.{credits_of, holders_of}
 use Rattle.society_core.specs.declared.claim_list.Candidate.{Candidate}
 use Rattle.sqlite.specs.Held.{state}
-use Rattle.society_closings.proofs.paying.credits_for.Goals as goal
+use Rattle.society_closings.proofs.paying.portions_for.Goals as goal
 
 pub returns-clause-looks : goal.returns-clause-looks
 returns-clause-looks g c = record {
@@ -28,10 +29,10 @@ returns-clause-looks g c = record {
       let works = c.args.works.now in
       let old = state g.S.Store c.args.tx.now.conn.now in
       let Ready : Book → Type 0 = λ b. ListsWorks (wants_for order.cut (is_tallied tally)) old.now.trees works.listed × AreWorksWeighed o old.now.trees works × HoldsWorks o b old.now.trees × ReachesCut b order × Tallies tally (rows_named b order) in
-      looks_as old (state g.S.Store c.candidates_in.new.tx.conn.now) c.in_ok-candidates.candidates c.credits_by.result _ _ c.in_ok-candidates.ensures.looks.says
-      (λ stand. more c.credits_by.result (λ y pays listed weighed b holds reached tallied. pays b (listed, weighed, holds, reached, tallied))
-      (by_each c.credits_by.result Ready (λ b y. y.items ≡ credits_of o b order)
-      (λ b ready. c.credits_by.ensures.pays o b ready.4
+      looks_as old (state g.S.Store c.candidates_in.new.tx.conn.now) c.in_ok-candidates.candidates c.portions_by.result _ _ c.in_ok-candidates.ensures.looks.says
+      (λ stand. more c.portions_by.result (λ y pays listed weighed b holds reached tallied. pays b (listed, weighed, holds, reached, tallied))
+      (by_each c.portions_by.result Ready (λ b y. credits_together y.items ≡ credits_of o b order)
+      (λ b ready. c.portions_by.ensures.pays o b ready.4
       (subst (λ (right : Kind). StandFor (holders_of right o) (is_tallied tally) (works_of_cut o b order) c.deref.result.now) c.kind.ensures
       (subst (StandFor (holders_of c.kind.result o) (is_tallied tally) (works_of_cut o b order)) (sym c.deref.ensures.value) (stand ready.0 ready.1 b ready.2 ready.3))))));
 }
@@ -52,8 +53,8 @@ returns-clause-err g c =
     let tally = c.args.tally.now in
     let works = c.args.works.now in
     let old = state g.S.Store c.args.tx.now.conn.now in
-    errs_as (LackTallied o order tally works) old (state g.S.Store c.candidates_in.new.tx.conn.now) c.in_ok-candidates.candidates c.credits_by.result _ c.in_ok-candidates.ensures.looks.says
-    (λ stand. blames_where (BelongNowhere tally c.deref.result.now order) (LackTallied o order tally works old.now.trees) c.credits_by.result c.credits_by.ensures.blames
+    errs_as (LackTallied o order tally works) old (state g.S.Store c.candidates_in.new.tx.conn.now) c.in_ok-candidates.candidates c.portions_by.result _ c.in_ok-candidates.ensures.looks.says
+    (λ stand. blames_where (BelongNowhere tally c.deref.result.now order) (LackTallied o order tally works old.now.trees) c.portions_by.result c.portions_by.ensures.blames
     (λ no listed weighed b holds reached tallied few. no o b tallied few
     (subst (λ (right : Kind). StandFor (holders_of right o) (is_tallied tally) (works_of_cut o b order) c.deref.result.now) c.kind.ensures
     (subst (StandFor (holders_of c.kind.result o) (is_tallied tally) (works_of_cut o b order)) (sym c.deref.ensures.value) (stand listed weighed b holds reached)))))
