@@ -7,9 +7,10 @@
 
 Run it anywhere in the repository. A value is a number or a text in a file of tests: a module that the root of its crate names
 under cfg(test), and the library of sample bodies; a script of trials/ is one too, and each trial a test. "a" and b"a" are one value, and a
-text of five bytes or more is not listed where it stands within another of AFTER. The data of the program of rows counts too: each row and
-each folder of rows is a test by its name, each file is a text, and so is each number in one. So do the files of the programs of cases: each
-group is a test by its name, and each line, body, word and number is a value. A test is not listed as lacking where AFTER has a row of its
+text of five bytes or more is not listed where it stands within another of AFTER. The rows over bytes count too, also where they stand in
+another folder: each row and each folder of rows is a test by its name, each file is a text, and so is each number in one; a row is listed too
+whose requests or answers are other bytes. So do the files of the programs of cases: each group is a test by its name, and each line, body, word
+and number is a value. A test is not listed as lacking where AFTER has a row of its
 name, in a file or in a table of a test. A value that stands fewer times need not be a case that was dropped, since several tests may share
 one table or one sample: read the list.
 """
@@ -20,7 +21,12 @@ import subprocess
 import sys
 
 LIBRARY_OF_BODIES = "test_bodies"
-PROGRAM_OF_ROWS = "test_rows"
+# The files of the rows over bytes, and the file that says of each how many requests are answered: older revisions have a program for rows alone.
+ROWS = re.compile(r"crates/(test_rows)/data/(.+)\.(http|answers)|crates/(test_desk)/data/rows/(.+)\.(http|answers)")
+COUNTS_OF_ROWS = {
+    "crates/test_rows/stdout": re.compile(r"^(\S+): (\d+) requests, as wanted$", re.M),
+    "crates/test_desk/data/rows.cases": re.compile(r"^serve-row (\S+) -> served (\d+), all$", re.M),
+}
 PROGRAMS_OF_CASES = ("test_cases", "test_desk")
 TRIALS = "trials"
 TOKEN = re.compile(
@@ -63,12 +69,19 @@ def test_files(revision, names):
 
 
 def rows(revision, names):
-    """Each file of rows: its folders and its name, and what it holds."""
-    front = f"crates/{PROGRAM_OF_ROWS}/data/"
+    """Each file of rows: its crate, the row, its ending, and what it holds."""
     for name in names:
-        if name.startswith(front):
-            path, _, ending = name[len(front) :].rpartition(".")
-            yield path.split("/"), ending, git_bytes("show", f"{revision}:{name}")
+        found = ROWS.fullmatch(name)
+        if found:
+            crate, row, ending = filter(None, found.groups())
+            yield crate, row, ending, git_bytes("show", f"{revision}:{name}")
+
+
+def counts_of_rows(revision, names):
+    """Each row that a program asks, and how many requests of it are answered."""
+    for name, said in COUNTS_OF_ROWS.items():
+        if name in names:
+            yield from said.findall(git("show", f"{revision}:{name}"))
 
 
 def written(text):
@@ -137,19 +150,28 @@ class Cases:
                 self.values.update(found)
                 self.counts[TRIALS].update(tests=len(trials), values=len(found))
         self.row_names = {item.decode(errors="replace") for item in self.values if isinstance(item, bytes)}
-        for path, ending, data in rows(revision, names):
-            numbers = [int(number) for number in re.findall(rb"(?<!\w)\d+(?!\w)", data)]
-            self.values.update([data, *numbers])
-            self.row_names.update(path)
-            if ending == "http":
-                self.tests.append((PROGRAM_OF_ROWS, "::".join(path[:-1]), path[-1]))
-            self.counts[PROGRAM_OF_ROWS].update(tests=ending == "http", values=1 + len(numbers))
+        self.rows = collections.defaultdict(dict)
+        self.add_rows(revision, names)
         self.add_sheets(revision, names)
         for name in names:
             edit = re.fullmatch(r"crates/(\w+)/must-fail/(\w+)\.edit", name)
             if edit:
                 self.edits.append((edit[1], edit[2]))
                 self.counts[edit[1]].update(edits=1)
+
+    def add_rows(self, revision, names):
+        """Adds the rows over bytes."""
+        for crate, row, ending, data in rows(revision, names):
+            self.rows[row][ending] = data
+            path = row.split("/")
+            numbers = [int(number) for number in re.findall(rb"(?<!\w)\d+(?!\w)", data)]
+            self.values.update([data, *numbers])
+            self.row_names.update(path)
+            if ending == "http":
+                self.tests.append((crate, "::".join(path[:-1]), path[-1]))
+            self.counts[crate].update(tests=ending == "http", values=1 + len(numbers))
+        for row, count in counts_of_rows(revision, names):
+            self.rows[row]["count"] = count
 
     def add_sheets(self, revision, names):
         """Adds the files of cases, and the files that they take."""
@@ -180,6 +202,15 @@ def print_counts(cases):
     print(f"{'all':16}" + "".join(f"{total[column]:9}" for column in columns))
 
 
+def compare_rows(before, after):
+    """Prints each row over bytes that AFTER lacks, or has with other requests, other answers or another count; and how many are the same."""
+    others = [row for row, files in before.rows.items() if after.rows.get(row) != files]
+    for row in others:
+        seen = after.rows.get(row, {})
+        print(f"row {row}: {', '.join(sorted(it for it in {*before.rows[row], *seen} if before.rows[row].get(it) != seen.get(it)))}")
+    print(f"rows over bytes: {len(before.rows) - len(others)} of {len(before.rows)} are the same")
+
+
 def main():
     if len(sys.argv) not in (2, 3) or sys.argv[1] in ("-h", "--help"):
         sys.exit(__doc__)
@@ -197,6 +228,7 @@ def main():
     for crate, module, test in before.tests:
         if names[test] > 0 and test not in after.row_names:
             print(f"test {crate} {module}::{test}")
+    compare_rows(before, after)
     edits = collections.Counter(edit for _, edit in before.edits)
     edits.subtract(edit for _, edit in after.edits)
     for crate, edit in before.edits:

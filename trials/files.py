@@ -159,5 +159,5 @@ def rows_over_a_file(program, folder):
     """Over a file a stream is answered as it is over tables in memory."""
     for number, row in enumerate(it for it in ROW_NAMES if it.startswith(OVER_A_FILE)):
         with Server(program, folder, f"{number}.db") as server:
-            told(row, server.sent((ROWS / f"data/{row}.http").read_bytes()), (ROWS / f"data/{row}.answers").read_bytes())
+            told(row, server.sent((ROWS / f"{row}.http").read_bytes()), (ROWS / f"{row}.answers").read_bytes())
             told(row, server.ended().status, 0)

@@ -1,7 +1,7 @@
 //! The bodies that cases ask about, made line by line.
-use crate::words::{bytes_of, first_word};
 use std::alloc::{AllocError, Global};
 use test_bodies::{changed, joined, lines};
+use test_sheets::{bytes_of, first_word, push_line};
 
 /// The digit of a number with so many digits behind it.
 fn digit(number: u64, behind: usize) -> u8 {
@@ -88,13 +88,6 @@ fn with_line_feeds(alloc: Global, body: &[u8]) -> Result<Vec<u8>, AllocError> {
 /// The number that a word spells; 0 where it spells none.
 pub fn count(word: &str) -> usize {
     word.parse::<usize>().unwrap_or(0)
-}
-
-/// Appends a text and a line feed.
-fn push_line(alloc: Global, body: &mut Vec<u8>, rest: &str) -> Result<(), AllocError> {
-    let mut bytes = bytes_of(alloc, rest)?;
-    bytes.push(b'\n')?;
-    body.extend_from_slice(&bytes)
 }
 
 /// Changes a body as a line of a file of cases says; whether there is such a change.

@@ -1,12 +1,12 @@
 //! Files: the faults of bodies, and what right ones tell.
 use crate::body::count;
 use crate::told::Told;
-use crate::words::first_word;
 use cwr_files::{
     FileFault, FileReader, Group, ReadFault, Transaction, Transmission, find_fault,
     read_transmission,
 };
 use std::alloc::Global;
+use test_sheets::first_word;
 use work_ids::SenderKey;
 
 /// Tells what a word asks of a sender's body; whether there is such a word.

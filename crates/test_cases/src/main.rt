@@ -4,37 +4,29 @@
 
 mod answers;
 mod body;
+mod cases;
 mod files;
 mod ids;
 mod numbers;
 mod records;
 mod returns;
 mod shares;
-mod sheet;
 mod splits;
 mod told;
-mod words;
 mod works;
 
-use sheet::Sheet;
-use std::{env, fs, io};
-
-/// Asks all cases of a file.
-fn check_file(rt: &HostRuntime, name: &str) -> io::Result<()> {
-    let alloc = rt.alloc();
-    let text = fs::read_to_string(rt, format!(in alloc; "{name}.cases")?.as_str())?;
-    let mut sheet = Sheet::new(alloc);
-    for line in text.as_str().lines() {
-        sheet.take(rt, line)?;
-    }
-    sheet.end_group(rt)
-}
+use cases::Cases;
+use std::io;
+use test_sheets::texts;
 
 fn main(rt: HostRuntime) -> io::Result<()> {
-    let alloc = rt.alloc();
-    let words = env::args(&rt)?.collect::<Vec<String>>(alloc)?;
-    for name in words.iter().skip(1) {
-        check_file(&rt, name.as_str())?;
+    let texts = texts(&rt)?;
+    for text in texts.iter() {
+        let mut cases = Cases::new(rt.alloc());
+        for line in text.as_str().lines() {
+            cases.take(&rt, line)?;
+        }
+        cases.end(&rt)?;
     }
     Ok(())
 }

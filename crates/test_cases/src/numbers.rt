@@ -1,6 +1,6 @@
 //! Numbers of transmissions, returns and pools: which there are, how they are spelled, and where segments of them end.
 use crate::told::Told;
-use crate::words::first_word;
+use test_sheets::first_word;
 use work_ids::{
     GREATEST_RANK, PoolNumber, ReturnNumber, Segment, SegmentEnd, SegmentFault, SegmentPlace,
     SpelledNumber, TransmissionNumber, dated_text, read_file_name,

@@ -3,13 +3,13 @@ ghost use Rattle.std.specs.Prelude.{◌≡◌, length};
 
 use crate::body::count;
 use crate::told::Told;
-use crate::words::first_word;
 use cwr_records::{
     Field, Indicator, Line, PublisherRecord, PublisherTerritory, Record, RecordKind,
     RecordingDetail, Share, TisCode, WorkRecord, WriterRecord, read_record, split_line,
     write_record,
 };
 use std::alloc::Global;
+use test_sheets::first_word;
 use work_ids::are_blank;
 
 /// Tells what a word asks of a line of a body; whether there is such a word.

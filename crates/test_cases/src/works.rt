@@ -1,11 +1,11 @@
 //! Lines of a sender: what is judged of its transmissions, with which verdicts, and which versions its works have at a cut.
 use crate::told::Told;
-use crate::words::first_word;
 use cwr_files::read_transmission;
 use cwr_records::TransactionKind;
 use std::alloc::Global;
 use std::fs;
 use test_bodies::{office, sender};
+use test_sheets::first_word;
 use work_ids::{TransmissionNumber, WorkNumber};
 use works_core::{Judged, LineEnd, SenderLine, Verdict, WorkVersion, isrcs, judge_all};
 

@@ -1,6 +1,5 @@
 //! Calls of the desk that bytes do not show: bodies that are fed in two pieces, runs of requests, and what the book has then.
 use crate::stream::Stream;
-use crate::words::first_word;
 use cwr_files::FileReader;
 use society_core::{
     Answer, Arrival, Desk, PlainStore, Refusal, Request, SenderStatus, Standing, run,
@@ -8,6 +7,7 @@ use society_core::{
 use std::alloc::{AllocError, Global};
 use std::fs;
 use test_bodies::{number, sender, work};
+use test_sheets::first_word;
 use work_ids::{SenderKey, TransmissionNumber};
 
 /// The number of a transmission that a word spells.

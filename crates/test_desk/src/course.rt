@@ -1,6 +1,6 @@
 //! How a connection goes.
-use crate::words::first_word;
 use std::io::ErrorKind;
+use test_sheets::first_word;
 
 /// How a connection goes: how its bytes come, and how much is taken of what is written to it.
 #[derive(Clone, Copy)]

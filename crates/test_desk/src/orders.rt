@@ -1,9 +1,9 @@
 //! Orders that are made of numbers: their faults.
-use crate::words::first_word;
 use share_rules::Kind;
 use society_core::{OrderError, PoolOrder};
 use std::alloc::Global;
 use test_bodies::sender;
+use test_sheets::first_word;
 use work_ids::{Reporter, SenderKey};
 
 /// The numbers of a list with commas, where `7*3` is 7 three times; none of a hyphen.

@@ -1,7 +1,7 @@
 //! What a connection is sent, and the answers that are wanted.
-use crate::words::{bytes_of, first_word};
 use std::alloc::{AllocError, Global};
 use std::{fs, io};
+use test_sheets::{bytes_of, first_word, push_line};
 
 /// The bytes that a connection reads, and those that are wanted of it.
 #[derive(Drop)]
@@ -16,13 +16,6 @@ fn bytes_or_file(rt: &HostRuntime, text: &str) -> io::Result<Vec<u8>> {
         return Ok(bytes_of(rt.alloc(), text)?);
     }
     fs::read(rt, text)
-}
-
-/// Appends a line.
-fn push_line(alloc: Global, out: &mut Vec<u8>, text: &str) -> Result<(), AllocError> {
-    out.extend_from_slice(&bytes_of(alloc, text)?)?;
-    out.push(b'\n')?;
-    Ok(())
 }
 
 impl Stream {

@@ -46,6 +46,13 @@ pub fn bytes_of(alloc: Global, text: &str) -> Result<Vec<u8>, AllocError> {
     Ok(bytes)
 }
 
+/// Appends the bytes that a text writes, and a line feed.
+pub fn push_line(alloc: Global, out: &mut Vec<u8>, text: &str) -> Result<(), AllocError> {
+    out.extend_from_slice(&bytes_of(alloc, text)?)?;
+    out.push(b'\n')?;
+    Ok(())
+}
+
 /// A text without the quotes around it.
 fn inside(text: &str) -> &str {
     match text.strip_prefix('"') {

@@ -1,25 +1,23 @@
-//! A file of cases, line by line.
+//! The cases of a file, and the desks that they ask.
 use crate::calls::{tell_book, tell_put, tell_run, tell_work};
 use crate::course::Course;
 use crate::orders::tell_order;
+use crate::rows::serve_row;
 use crate::stream::Stream;
 use crate::streams::serve_stream;
-use crate::words::first_word;
 use share_rules::Office;
 use society_core::{Desk, PlainStore};
-use std::alloc::{AllocError, Global};
+use std::alloc::Global;
 use std::{io, mem};
+use test_sheets::{Line, Sheet, first_word};
 use test_store::FailingStore;
 
-/// What has been read of a file: the group, whether a case of it was asked, and whether all were as wanted; the name of the case, the
-/// lines that a row stands for, what is sent and wanted, a stream that was kept; and the desks over the two stores.
+/// What has come of a file of cases, the lines that a row stands for, what is sent and wanted, a stream that was kept; and the desks over the
+/// two stores.
 #[derive(Drop)]
-pub struct Sheet {
+pub struct Cases {
     office: Office,
-    group: String,
-    is_asked: bool,
-    is_well: bool,
-    name: String,
+    sheet: Sheet,
     rows: String,
     stream: Stream,
     kept: Stream,
@@ -27,15 +25,12 @@ pub struct Sheet {
     failing: Desk<FailingStore>,
 }
 
-impl Sheet {
+impl Cases {
     /// Nothing has been read, and nothing has come to the desks of this office.
-    pub fn new(alloc: Global, office: &Office) -> Sheet {
-        Sheet {
+    pub fn new(alloc: Global, office: &Office) -> Cases {
+        Cases {
             office: *office,
-            group: String::new(alloc),
-            is_asked: false,
-            is_well: true,
-            name: String::new(alloc),
+            sheet: Sheet::new(alloc),
             rows: String::new(alloc),
             stream: Stream::new(alloc),
             kept: Stream::new(alloc),
@@ -44,26 +39,16 @@ impl Sheet {
         }
     }
 
-    /// Tells of a group that has ended.
-    pub fn end_group(&self, rt: &HostRuntime) -> io::Result<()> {
-        let group = self.group.as_str();
-        if group.is_empty() {
-            return Ok(());
-        }
-        let verdict = match (self.is_well, self.is_asked) {
-            (false, _) => "not as wanted",
-            (true, false) => "no case",
-            (true, true) => "as wanted",
-        };
-        println!(rt; "{group}: {verdict}")
+    /// Tells of the last group.
+    pub fn end(&self, rt: &HostRuntime) -> io::Result<()> {
+        self.sheet.end_group(rt)
     }
 
     /// Begins a group: all is as at first.
     fn begin_group(&mut self, rt: &HostRuntime, name: &str) -> io::Result<()> {
-        self.end_group(rt)?;
-        *self = Sheet::new(rt.alloc(), &self.office);
-        self.group = String::from_str(rt.alloc(), name)?;
-        Ok(())
+        self.end(rt)?;
+        *self = Cases::new(rt.alloc(), &self.office);
+        self.sheet.begin_group(rt, name)
     }
 
     /// Nothing has come to the desks.
@@ -73,28 +58,10 @@ impl Sheet {
     }
 
     /// Begins a case: nothing is sent or wanted, and nothing has come to the desks.
-    fn begin_case(&mut self, alloc: Global, name: &str) -> Result<(), AllocError> {
-        self.name = String::from_str(alloc, name)?;
+    fn begin_case(&mut self, alloc: Global, name: &str) -> io::Result<()> {
         self.stream = Stream::new(alloc);
         self.begin_desks(alloc);
-        Ok(())
-    }
-
-    /// Compares what is told of a case with what is wanted.
-    fn compare(
-        &mut self,
-        rt: &HostRuntime,
-        case: &str,
-        told: &str,
-        wanted: &str,
-    ) -> io::Result<()> {
-        self.is_asked = true;
-        if told == wanted {
-            return Ok(());
-        }
-        self.is_well = false;
-        let name = self.name.as_str();
-        println!(rt; "{name}: {case}\n  there is: {told}\n  wanted is: {wanted}")
+        Ok(self.sheet.begin_case(alloc, name)?)
     }
 
     /// What is told of a case; none where there is no such question.
@@ -111,6 +78,7 @@ impl Sheet {
             "serve-kept" => {
                 serve_stream(alloc, &mut self.desk, &self.kept, &Course::of(rest)?).ok()
             }
+            "serve-row" => serve_row(rt, &self.office, rest),
             "put" => tell_put(alloc, &mut self.desk, &self.stream.input, rest),
             "run" => tell_run(rt, &mut self.desk, &self.stream),
             "book" => tell_book(rt, &mut self.desk, rest),
@@ -123,25 +91,31 @@ impl Sheet {
     /// Asks a case, and compares what is told.
     fn ask(&mut self, rt: &HostRuntime, case: &str, wanted: &str) -> io::Result<()> {
         match self.told(rt, case) {
-            Some(told) => self.compare(rt, case, told.as_str(), wanted),
-            None => self.compare(rt, case, "no such question", wanted),
+            Some(told) => self.sheet.compare(rt, case, told.as_bytes(), wanted),
+            None => self.sheet.compare(rt, case, b"no such question", wanted),
         }
     }
 
-    /// Reads a line: a case, the name of a group or of a case, or a part of what is sent or wanted.
-    fn take_line(&mut self, rt: &HostRuntime, line: &str) -> io::Result<()> {
-        if let Some((case, wanted)) = line.split_once(" -> ") {
-            return self.ask(rt, case, wanted);
-        }
-        let (word, rest) = first_word(line);
+    /// Begins again with empty desks, keeps a stream, or adds to what is sent or wanted; whether a line says such a thing.
+    fn build(&mut self, rt: &HostRuntime, word: &str, rest: &str) -> io::Result<bool> {
         match word {
-            "==" => self.begin_group(rt, rest)?,
-            ":" => self.begin_case(rt.alloc(), rest)?,
             "anew" => self.begin_desks(rt.alloc()),
             "keep" => self.kept = mem::replace(&mut self.stream, Stream::new(rt.alloc())),
-            _ => {
-                if !self.stream.build(rt, word, rest)? {
-                    return self.compare(rt, line, "no such line", "a line that says something");
+            _ => return self.stream.build(rt, word, rest),
+        }
+        Ok(true)
+    }
+
+    /// Reads a line that stands for itself.
+    fn take_line(&mut self, rt: &HostRuntime, line: &str) -> io::Result<()> {
+        match Line::of(line) {
+            Line::Remark => {}
+            Line::Group(name) => self.begin_group(rt, name)?,
+            Line::Name(name) => self.begin_case(rt.alloc(), name)?,
+            Line::Case(case, wanted) => self.ask(rt, case, wanted)?,
+            Line::Part(word, rest) => {
+                if !self.build(rt, word, rest)? {
+                    self.sheet.refuse(rt, line)?;
                 }
             }
         }
@@ -169,7 +143,9 @@ impl Sheet {
                 }
                 Ok(())
             }
-            _ => self.compare(rt, words, "no numbers", "one number and a greater one"),
+            _ => self
+                .sheet
+                .compare(rt, words, b"no numbers", "one number and a greater one"),
         }
     }
 
@@ -183,7 +159,6 @@ impl Sheet {
     pub fn take(&mut self, rt: &HostRuntime, line: &str) -> io::Result<()> {
         let (word, rest) = first_word(line);
         match word {
-            "" | "#" => {}
             "rows" => self.rows = String::from_str(rt.alloc(), rest)?,
             "-" => self.take_row(rt, rest)?,
             "each" => self.take_each(rt, rest)?,
