@@ -1,5 +1,5 @@
 //! Requests to the office over files, and what is answered.
-use crate::files::OPTIONS;
+use crate::files::{Fused, OPTIONS};
 use http_desk::{Counted, serve};
 use share_rules::Office;
 use society_core::{Desk, Store};
@@ -73,7 +73,7 @@ fn ask_store<S: Alter + Drop>(
 }
 
 /// The same over files, which are left with no call of the store's own.
-pub fn ask<D: Disk + Drop>(
+fn ask_files<D: Disk + Drop>(
     alloc: Global,
     office: &Office,
     files: Files<D>,
@@ -89,4 +89,14 @@ pub fn ask<D: Disk + Drop>(
         }
         Err((_, left)) => Some((None, left.into_files())),
     }
+}
+
+/// The same over files that fail each call after so many.
+pub fn ask(
+    alloc: Global,
+    office: &Office,
+    files: Files<Fused>,
+    requests: &[&[u8]],
+) -> Option<(Option<Answers>, Files<Fused>)> {
+    ask_files(alloc, office, files, requests)
 }

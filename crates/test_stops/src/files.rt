@@ -99,13 +99,19 @@ pub fn synced(alloc: Global, files: Files<Fused>) -> Option<Image> {
     written(alloc, &Files { log, db })
 }
 
-/// Runs statements over files, and leaves the database file alone.
-pub fn changed(alloc: Global, image: &Image, statements: &str) -> Option<Image> {
-    let files = whole(alloc, image)?;
+// What is done over files is done over any: over files by their name each call takes a minute to prove.
+
+/// Files over which statements were run, which leaves the database file alone.
+fn executed<D: Disk + Drop>(alloc: Global, files: Files<D>, statements: &str) -> Option<Files<D>> {
     if !files.log.may_be_used() || !files.db.may_be_used() {
         return None;
     }
     let mut conn = Connection::open_files(alloc, files, OPTIONS).ok()?;
     conn.execute_batch(statements).ok()?;
-    written(alloc, &conn.close_files().ok()?)
+    conn.close_files().ok()
+}
+
+/// What statements over files leave.
+pub fn changed(alloc: Global, image: &Image, statements: &str) -> Option<Image> {
+    written(alloc, &executed(alloc, whole(alloc, image)?, statements)?)
 }

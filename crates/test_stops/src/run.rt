@@ -94,19 +94,25 @@ fn add_all<'a>(list: &mut Vec<&'a [u8]>, requests: &'a [Vec<u8>], from: usize) -
     Some(())
 }
 
-/// The first line of an answer.
-fn status(answer: &[u8]) -> &str {
-    let line = answer.split(|byte| *byte == b'\r').next();
-    std::str::from_utf8(line.unwrap_or(answer)).unwrap_or("no text")
+/// The first line of an answer, and its body.
+fn parts(answer: &[u8]) -> (&str, &str) {
+    let text = std::str::from_utf8(answer).unwrap_or("no text");
+    let (head, body) = text.split_once("\r\n\r\n").unwrap_or((text, ""));
+    let (first, _) = head.split_once("\r\n").unwrap_or((head, ""));
+    (first, body)
 }
 
-/// The last line of an answer.
-fn last_line(answer: &[u8]) -> &str {
-    let line = answer.rsplit(|byte| *byte == b'\n').next();
-    std::str::from_utf8(line.unwrap_or(answer)).unwrap_or("no text")
+/// Prints the first line of an answer, and then the lines of its body.
+fn tell_answer(rt: &HostRuntime, answer: &[u8]) -> io::Result<()> {
+    let (first, body) = parts(answer);
+    println!(rt; "  {first}")?;
+    for line in body.lines() {
+        println!(rt; "    {line}")?;
+    }
+    Ok(())
 }
 
-/// Prints the status and the last line of the answer to each request and to each question.
+/// Prints the answer to each request and to each question.
 pub fn tell_answers(rt: &HostRuntime, office: &Office, course: &Course) -> io::Result<()> {
     let alloc = rt.alloc();
     let image = Image::empty(alloc);
@@ -118,8 +124,7 @@ pub fn tell_answers(rt: &HostRuntime, office: &Office, course: &Course) -> io::R
         return println!(rt; "  the store fails");
     };
     for answer in told.iter().skip(course.questions.len()) {
-        let (first, last) = (status(answer.as_slice()), last_line(answer.as_slice()));
-        println!(rt; "  {first}: {last}")?;
+        tell_answer(rt, answer.as_slice())?;
     }
     Ok(())
 }
