@@ -10,7 +10,7 @@ import time
 
 from common import FIRST, NO_WORKS, OFFICE, SENDER, get, put_file, put_pool, put_return, request, works_file
 from leaving import CLOSED_AT_A_CUT, change, left_by
-from program import BAD, LIMIT, Ended, Other, Server, acknowledgement, answer, answered, applied, run, slow, told, trial
+from program import BAD, LIMIT, Ended, Other, Server, acknowledgement, answer, answered, applied, run, told, trial
 
 # What is answered to a body that is too long, at the end of its connection.
 TOO_LONG = b'HTTP/1.1 413 Payload Too Large\r\nContent-Type: application/json\r\nContent-Length: 16\r\nConnection: close\r\n\r\n{"error":"size"}'
@@ -118,7 +118,6 @@ def a_peer_that_does_not_read(program, folder):
         told("its line", re.sub(rb"after \d+", b"after N", server.ended().out.splitlines()[1]), b"connection 1: write fault after N requests")
 
 
-@slow
 @trial
 def slow_and_silent_peers(program, folder):
     """A slow peer is answered; a silent one is let go after half a minute, and the next one is served."""
@@ -198,7 +197,6 @@ def without_descriptors(program, folder, connections):
     raise Other("it does not listen")
 
 
-@slow
 @trial
 def a_connection_that_cannot_be_accepted(program, folder):
     """With no descriptor left for a connection it ends after half a minute; the file holds the book."""

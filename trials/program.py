@@ -3,6 +3,7 @@ import contextlib
 import dataclasses
 import os
 import pathlib
+import re
 import socket
 import subprocess
 import sys
@@ -15,15 +16,13 @@ import common
 from common import OFFICE, get
 
 # The rows over bytes: requests, and the answers that an office to which nothing has come gives to them.
-ROWS = ROOT / "crates/test_rows"
-ROW_NAMES = (ROWS / "args").read_text().split()
+ROWS = ROOT / "crates/test_desk/data/rows"
+ROW_NAMES = re.findall(r"^serve-row (\S+) -> ", ROWS.with_suffix(".cases").read_text(), re.M)
 # The most seconds that one run may take.
 LIMIT = 60
 # How many bytes before the first that differs a message has.
 CONTEXT = 100
 TRIALS = []
-# Those that take half a minute or more: of several programs the first one is tried so.
-SLOW = []
 
 
 class Other(Exception):
@@ -33,12 +32,6 @@ class Other(Exception):
 def trial(function):
     """Adds a trial: it is given a program, and an empty folder to run it in."""
     TRIALS.append(function)
-    return function
-
-
-def slow(function):
-    """Says of a trial that it takes half a minute or more."""
-    SLOW.append(function)
     return function
 
 

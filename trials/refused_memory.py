@@ -19,7 +19,7 @@ import socket
 import subprocess
 
 from common import CSV_HEADER, FIRST, NO_WORKS, OFFICE, REVISION, SENDER, get, order_body, request
-from program import EMPTY_DATABASE, LIMIT, Ended, Other, Server, run, slow, told, trial
+from program import EMPTY_DATABASE, LIMIT, Ended, Other, Server, run, told, trial
 
 PATH = f"/v1/senders/{SENDER}"
 BUSY = b'{"error":"busy"}'
@@ -243,7 +243,6 @@ def check_share(tried, folder, first, step):
 IN_TURN = [("first_acknowledgement", False, ["a start"]), *((it, True, ["a connection", "an answer"]) for it in ROWS)]
 
 
-@slow
 @trial
 def each_allocation_is_refused_in_turn(program, folder):
     library, shares = compiled(folder), 2 * (os.cpu_count() or 1)

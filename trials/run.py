@@ -9,12 +9,13 @@ A line tells of each trial that fails; the status is 1 then. The gate runs them 
 (.ci/run).
 """
 import argparse
+import concurrent.futures
 import pathlib
 import subprocess
 import sys
 import tempfile
 
-from program import ROOT, SLOW, TRIALS, Other, common
+from program import ROOT, TRIALS, Other, common
 
 # Each of these adds its trials.
 import arguments
@@ -53,14 +54,13 @@ def failures(tried, trials):
 
 
 def check(programs, word=""):
-    """Runs all trials with this word in their names over the first program, over each other one those that are not slow, and gives how many
-    passed and failed."""
+    """Runs all trials with this word in their names over each program, one program beside the other, and gives how many passed and failed."""
+    trials = [it for it in TRIALS if word in it.__name__]
     passed = failed = 0
-    for number, tried in enumerate(programs):
-        trials = [it for it in TRIALS if word in it.__name__ and (number == 0 or it not in SLOW)]
-        lines = list(failures(tried, trials))
-        print(*lines, f"{tried.name}: {len(trials) - len(lines)} of {len(trials)} trials as wanted", sep="\n", flush=True)
-        passed, failed = passed + len(trials) - len(lines), failed + len(lines)
+    with concurrent.futures.ThreadPoolExecutor(len(programs)) as pool:
+        for tried, lines in zip(programs, pool.map(lambda it: list(failures(it, trials)), programs), strict=True):
+            print(*lines, f"{tried.name}: {len(trials) - len(lines)} of {len(trials)} trials as wanted", sep="\n", flush=True)
+            passed, failed = passed + len(trials) - len(lines), failed + len(lines)
     return passed, failed
 
 
