@@ -2,7 +2,8 @@
 import common
 from chosen import numbers as chosen_numbers
 from common import CSV_HEADER, FIRST, MAX_BODY, NO_WORKS, SENDER, changed, get, isrc, put_file, put_named, put_pool, put_return, state_end, works_file
-from program import Server, answer, applied, replayed, slow, told, trial
+from hostile_bodies import parties_and_recordings, returns_of
+from program import Server, answer, applied, replayed, told, trial
 
 
 def key(number):
@@ -44,7 +45,6 @@ def a_gap_before_two_thousand_files(program, folder):
     told("opened again", last_of(again), last_of(out))
 
 
-@slow
 @trial
 def a_gap_before_a_whole_year(program, folder):
     """The last 9,998 numbers of a year wait for its first, which waits for the year before."""
@@ -113,7 +113,6 @@ def file_of_works(program, folder, numbers):
     return path
 
 
-@slow
 @trial
 def numbers_that_a_sender_chooses(program, folder):
     """65,000 work numbers that would begin at one group of a hashed table take a start no longer than others do, in one of ten pairs of starts:
@@ -123,6 +122,21 @@ def numbers_that_a_sender_chooses(program, folder):
     others = file_of_works(program, folder, [b"W%011d" % (it * 8_191) for it in range(1, count + 1)])
     pairs = ((common.audit_seconds(program, chosen), common.audit_seconds(program, others)) for _ in range(10))
     told("as soon as others", any(first <= 1.3 * second for first, second in pairs), True)
+
+
+def memory_of_a_closing(program, folder, recordings):
+    """The most memory, in MB, of an office in a file that closes a pool over one work with so many recordings and 8,000 parties."""
+    asked = put_file(parties_and_recordings(recordings, 8_000)), put_return(returns_of(recordings)), put_pool(1, 10**12, [[SENDER, 1]], [["RADIO1", 1]])
+    with Server(program, folder, f"{recordings}.db", connections=2) as server:
+        told("closed", server.sent(b"".join(asked)).count(b"201 Created"), 3)
+        return common.peak_memory(server.process.pid)
+
+
+@trial
+def a_pool_of_many_credits(program, folder):
+    """Closing a pool of 480,000 credits takes little more memory than one of 160,000 does."""
+    few, many = memory_of_a_closing(program, folder, 20), memory_of_a_closing(program, folder, 60)
+    told("little more", many < few + 10, True)
 
 
 # Small rows: a name, the requests, and the bodies of the answers wanted.
