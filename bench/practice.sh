@@ -25,5 +25,5 @@ practice_ends() {
   wait "$server"
   nginx -p "$PWD/proxy" -c "$PWD/proxy/nginx.conf" -s quit 2> /dev/null
   cd ..
-  rm -r practice
+  rm -rf practice
 }
