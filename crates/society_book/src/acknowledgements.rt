@@ -49,7 +49,7 @@ fn acknowledgement_of<S: Alter>(
 }
 
 /// The acknowledgement of a sender's transmission at this office, none where its number is not in the sender's line.
-pub fn ack_of<S: Alter>(
+pub(crate) fn ack_of<S: Alter>(
     alloc: Global,
     conn: &mut Idle<S>,
     office: &Office,

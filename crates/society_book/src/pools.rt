@@ -47,7 +47,7 @@ fn see_lengths(account: &Account)
 }
 
 /// The balance of an account.
-pub fn balance_of<S: Alter>(
+pub(crate) fn balance_of<S: Alter>(
     alloc: Global,
     conn: &mut Idle<S>,
     account: &Account,
@@ -143,7 +143,7 @@ fn is_closed<S: Alter>(conn: &mut Idle<S>, pool: u32) -> Result<bool, RowFault>
 }
 
 /// The credits of a pool, none where it is not closed.
-pub fn pool_credits<S: Alter>(
+pub(crate) fn pool_credits<S: Alter>(
     alloc: Global,
     conn: &mut Idle<S>,
     pool: u32,

@@ -196,7 +196,7 @@ fn judged_of<S: Alter>(
 }
 
 /// The verdicts of a transmission, none where its number is not in its sender's line.
-pub fn verdicts_of<S: Alter>(
+pub(crate) fn verdicts_of<S: Alter>(
     alloc: Global,
     conn: &mut Idle<S>,
     sender: &[u8],

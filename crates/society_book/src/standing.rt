@@ -68,7 +68,7 @@ fn held_at<S: Alter>(
 }
 
 /// How a sender stands: its front, and the numbers of its held transmissions, ascending.
-pub fn status_of<S: Alter>(
+pub(crate) fn status_of<S: Alter>(
     alloc: Global,
     conn: &mut Idle<S>,
     sender: &[u8],

@@ -111,7 +111,7 @@ fn work_of_version<S: Alter>(
 }
 
 /// A sender's work at this office as its version at the sender's front shows it, none where it has none.
-pub fn work_of<S: Alter>(
+pub(crate) fn work_of<S: Alter>(
     alloc: Global,
     conn: &mut Idle<S>,
     office: &Office,

@@ -2,12 +2,11 @@
 ghost use Rattle.std.specs.Prelude.{◌≡◌, ℕ, List, IfOk, IsTrue};
 ghost use Rattle.cwr_files.specs.Fed.{WasFed};
 ghost use Rattle.society_core.specs.Answers.{arrival_at, cut_refusal, first_refusal, return_refusal};
-ghost use Rattle.society_core.specs.Requests.{Puts, States, PutsReturn, Closes, Arrived, Ended, Stored, Closed, Acknowledged, Described, Judged, Credited, Owed, shown_of, shown_to, showing_of, standing_of, told};
+ghost use Rattle.society_core.specs.Requests.{Puts, States, PutsReturn, Closes, Arrived, Ended, Stored, Closed, shown_to, showing_of, told};
 ghost use Rattle.society_core.specs.Runs.{LooksUp, Proceeds, RefusesBy, RefusesTruly};
 ghost use Rattle.society_core.specs.State.{ChangesNothing};
-ghost use Rattle.society_core.specs.declared.inquiry.Inquiry.TheVariants as inquiries;
 
-use crate::answers::{Arrival, Receipt, SenderStatus, Standing, Work};
+use crate::answers::{Arrival, Receipt, Standing};
 use crate::inquiry::{Inquiry, Showing};
 use crate::order::PoolOrder;
 use crate::refusal::Refusal;
@@ -16,12 +15,10 @@ use crate::store::{Known, KnownEnd, KnownTransmission, NumberPlace, Payment, Sto
 use crate::transmission_key::TransmissionKey;
 use cwr_files::{FileReader, ReadFault};
 use perf_returns::read_return;
-use pool_split::Credit;
 use share_rules::Office;
 use std::alloc::{AllocError, Global};
 use std::marker::Model;
-use work_ids::{Account, PoolNumber, SegmentEnd, SenderKey, TransmissionNumber, WorkNumber};
-use works_core::Verdict;
+use work_ids::{PoolNumber, SegmentEnd, SenderKey, TransmissionNumber};
 
 /// The desk of the office: it answers requests over the book that a store keeps. Clauses see the store.
 #[derive(Drop)]
@@ -252,112 +249,15 @@ impl<S: Store> Desk<S> {
         }
     }
 
-    /// The acknowledgement of a sender's transmission (the office's profile of CISAC CWR 2.2): `Unknown` where
-    /// its number is not in the sender's line, `Unavailable` for want of memory or where the store refuses.
-    pub fn ack(
-        &mut self,
-        alloc: Global,
-        sender: &SenderKey,
-        number: TransmissionNumber,
-    ) -> Result<Vec<u8>, Refusal>
-        ensures { LooksUp (S.state self.old) (S.state self.new) (inquiries.Acknowledgement sender.now number) (shown_to (λ text. Acknowledged text.items) result) }
-    {
-        match self.store.ack(alloc, sender, number)? {
-            Some(text) => Ok(text),
-            None => Err(Refusal::Unknown),
-        }
-    }
-
-    /// How a sender stands: its front and its held numbers; `Unavailable` for want of memory or where the store
-    /// refuses. A sender of whom nothing came has front 0.
-    pub fn sender(&mut self, alloc: Global, sender: &SenderKey) -> Result<SenderStatus, Refusal>
-        ensures { LooksUp (S.state self.old) (S.state self.new) (inquiries.Sender sender.now) (shown_to standing_of result) }
-    {
-        Ok(self.store.standing(alloc, sender)?)
-    }
-
-    /// The verdicts of a sender's transmission, one for each NWR and REV transaction in the order of the file:
-    /// `Unknown` where its number is not in the sender's line, `Unavailable` for want of memory or where the store
-    /// refuses.
-    pub fn verdicts(
-        &mut self,
-        alloc: Global,
-        sender: &SenderKey,
-        number: TransmissionNumber,
-    ) -> Result<Vec<Verdict>, Refusal>
-        ensures { LooksUp (S.state self.old) (S.state self.new) (inquiries.Verdicts sender.now number) (shown_to (λ verdicts. Judged verdicts.items) result) }
-    {
-        match self.store.verdicts(alloc, sender, number)? {
-            Some(verdicts) => Ok(verdicts),
-            None => Err(Refusal::Unknown),
-        }
-    }
-
-    /// A sender's work as its version at the front shows it: `Unknown` where the work has none, `Unavailable` for
-    /// want of memory or where the store refuses.
-    pub fn work(
-        &mut self,
-        alloc: Global,
-        sender: &SenderKey,
-        work: &WorkNumber,
-    ) -> Result<Work, Refusal>
-        ensures { LooksUp (S.state self.old) (S.state self.new) (inquiries.Work sender.now work.now) (shown_to (λ work. Described (shown_of work)) result) }
-    {
-        match self.store.work(alloc, sender, work)? {
-            Some(shown) => Ok(shown),
-            None => Err(Refusal::Unknown),
-        }
-    }
-
-    /// The credits of a pool: `Unknown` where it is not closed, `Unavailable` for want of memory or where the store
-    /// refuses.
-    pub fn credits(&mut self, alloc: Global, pool: PoolNumber) -> Result<Vec<Credit>, Refusal>
-        ensures { LooksUp (S.state self.old) (S.state self.new) (inquiries.Credits pool) (shown_to (λ credits. Credited credits.items) result) }
-    {
-        match self.store.credits(alloc, pool)? {
-            Some(credits) => Ok(credits),
-            None => Err(Refusal::Unknown),
-        }
-    }
-
-    /// The units of money that an account has come to over all pools, 0 where it has no credit; `Unavailable` for want of
-    /// memory or where the store refuses.
-    pub fn balance(&mut self, alloc: Global, account: &Account) -> Result<u64, Refusal>
-        ensures { LooksUp (S.state self.old) (S.state self.new) (inquiries.Balance account.now) (shown_to (Owed account.now) result) }
-    {
-        Ok(self.store.balance(alloc, account)?)
-    }
-
-    /// What is shown to a question: `Unknown` where it is not there, `Unavailable` for want of memory or where the store
-    /// refuses.
+    /// What is shown to a question: `Unknown` where it is not there, as an acknowledgement or verdicts of a number that is not in
+    /// its sender's line, a work without a version at the front, or a pool that is not closed; `Unavailable` for want of memory or
+    /// where the store refuses. A sender of whom nothing came has front 0, an account without a credit has 0 units.
     pub fn look_up(&mut self, alloc: Global, inquiry: &Inquiry) -> Result<Showing, Refusal>
         ensures { LooksUp (S.state self.old) (S.state self.new) inquiry.now (shown_to showing_of result) }
     {
-        match inquiry {
-            Inquiry::Acknowledgement { sender, number } => {
-                let text = self.ack(alloc, sender, *number)?;
-                Ok(Showing::Acknowledgement(text))
-            }
-            Inquiry::Sender { sender } => {
-                let status = self.sender(alloc, sender)?;
-                Ok(Showing::Sender(status))
-            }
-            Inquiry::Work { sender, work } => {
-                let shown = self.work(alloc, sender, work)?;
-                Ok(Showing::Work(shown))
-            }
-            Inquiry::Verdicts { sender, number } => {
-                let verdicts = self.verdicts(alloc, sender, *number)?;
-                Ok(Showing::Verdicts(verdicts))
-            }
-            Inquiry::Credits { pool } => {
-                let credits = self.credits(alloc, *pool)?;
-                Ok(Showing::Credits(credits))
-            }
-            Inquiry::Balance { account } => {
-                let units = self.balance(alloc, account)?;
-                Ok(Showing::Balance(*account, units))
-            }
+        match self.store.show(alloc, inquiry)? {
+            Some(shown) => Ok(shown),
+            None => Err(Refusal::Unknown),
         }
     }
 }

@@ -14,6 +14,7 @@ mod order_fault;
 mod plain_book;
 mod plain_lines;
 mod plain_pools;
+mod plain_showings;
 mod plain_store;
 mod points;
 mod refusal;

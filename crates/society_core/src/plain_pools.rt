@@ -1,13 +1,11 @@
 //! Returns and pools as the book in memory has them: points, claims and credits computed anew.
-ghost use Rattle.std.specs.Prelude.{◌≡◌, ◌≤◌, IfOk, List, OnOk, is_some, length, map, sum, true};
+ghost use Rattle.std.specs.Prelude.{◌≡◌, ◌≤◌, IfOk, List, OnOk, is_some, length, map, option_map, sum, true};
 ghost use Rattle.perf_returns.specs.declared.performance.Performance.{Performance as Row};
 ghost use Rattle.pool_split.specs.Credits.{units_of};
 ghost use Rattle.society_core.specs.Accounts.{same_account};
 ghost use Rattle.society_core.specs.Answers.{payment_in, pool_known_as, return_known_as};
-ghost use Rattle.society_core.specs.Asked.{AreCreditsOf};
-ghost use Rattle.society_core.specs.Book.{IsSound, return_at};
+ghost use Rattle.society_core.specs.Book.{IsSound, order_at, return_at};
 ghost use Rattle.society_core.specs.Candidates.{HasReturns, ReachesCut, rows_of_return};
-ghost use Rattle.society_core.specs.Plain.{plain_state};
 ghost use Rattle.society_core.specs.Points.{Tallies, TalliesOn, rows_named};
 ghost use Rattle.society_core.specs.Pools.{balance, credits_of, units_to};
 
@@ -133,7 +131,7 @@ pub(crate) fn credits_of_pool(
     pool: PoolNumber,
 ) -> Result<Option<Vec<Credit>>, AllocError>
     requires sound { IsSound book.now }
-    ensures { IfOk result (AreCreditsOf (plain_state office.now book.now) pool) }
+    ensures { IfOk result (λ credits. option_map (λ list. list.items) credits ≡ option_map (credits_of office.now book.now) (order_at book.now pool)) }
 {
     match book.order(pool) {
         None => Ok(None),

@@ -4,19 +4,18 @@ ghost use Rattle.society_core.specs.Asked.{IsPlaceOf, KnowsAs};
 ghost use Rattle.society_core.specs.Book.{IsSound};
 ghost use Rattle.society_core.specs.Plain.{AsksPlain};
 
-use crate::answers::{SenderStatus, Work};
+use crate::inquiry::{Inquiry, Showing};
 use crate::order::PoolOrder;
 use crate::plain_book::PlainBook;
-use crate::plain_lines::{ack_of, known_end_in, known_in, verdicts_of, work_of};
-use crate::plain_pools::{balance_of, credits_of_pool, known_pool_in, known_return_in, payment_of};
+use crate::plain_lines::{known_end_in, known_in};
+use crate::plain_pools::{known_pool_in, known_return_in, payment_of};
+use crate::plain_showings::showing_in;
 use crate::return_key::ReturnKey;
 use crate::store::{Known, KnownEnd, KnownTransmission, NumberPlace, Payment, Store, StoreFault};
 use cwr_files::FileReader;
-use pool_split::Credit;
 use share_rules::Office;
 use std::alloc::Global;
-use work_ids::{Account, PoolNumber, SegmentEnd, SenderKey, TransmissionNumber, WorkNumber};
-use works_core::Verdict;
+use work_ids::{PoolNumber, SegmentEnd, SenderKey, TransmissionNumber};
 
 /// A store in memory that keeps the four maps of the book and the senders' fronts, and computes every other answer from
 /// them anew.
@@ -64,15 +63,6 @@ impl Store for PlainStore {
         Ok(known_in(&self.book, sender, number, body))
     }
 
-    fn ack(
-        &mut self,
-        alloc: Global,
-        sender: &SenderKey,
-        number: TransmissionNumber,
-    ) -> Result<Option<Vec<u8>>, StoreFault> {
-        Ok(ack_of(alloc, &self.office, &self.book, sender, number)?)
-    }
-
     fn place(
         &mut self,
         sender: &SenderKey,
@@ -88,32 +78,6 @@ impl Store for PlainStore {
         Ok(known_end_in(&self.book, sender, end))
     }
 
-    fn standing(&mut self, alloc: Global, sender: &SenderKey) -> Result<SenderStatus, StoreFault> {
-        let held = self.book.held_numbers(alloc, sender)?;
-        Ok(SenderStatus {
-            front: self.book.front(sender),
-            held,
-        })
-    }
-
-    fn work(
-        &mut self,
-        alloc: Global,
-        sender: &SenderKey,
-        work: &WorkNumber,
-    ) -> Result<Option<Work>, StoreFault> {
-        Ok(work_of(alloc, &self.office, &self.book, sender, work)?)
-    }
-
-    fn verdicts(
-        &mut self,
-        alloc: Global,
-        sender: &SenderKey,
-        number: TransmissionNumber,
-    ) -> Result<Option<Vec<Verdict>>, StoreFault> {
-        Ok(verdicts_of(alloc, &self.office, &self.book, sender, number)?)
-    }
-
     fn known_return(&mut self, key: &ReturnKey, body: &[u8]) -> Result<Known, StoreFault> {
         Ok(known_return_in(&self.book, key, body))
     }
@@ -126,16 +90,8 @@ impl Store for PlainStore {
         Ok(known_pool_in(&self.book, pool, order))
     }
 
-    fn credits(
-        &mut self,
-        alloc: Global,
-        pool: PoolNumber,
-    ) -> Result<Option<Vec<Credit>>, StoreFault> {
-        Ok(credits_of_pool(alloc, &self.office, &self.book, pool)?)
-    }
-
-    fn balance(&mut self, alloc: Global, account: &Account) -> Result<u64, StoreFault> {
-        Ok(balance_of(alloc, &self.office, &self.book, account)?)
+    fn show(&mut self, alloc: Global, inquiry: &Inquiry) -> Result<Option<Showing>, StoreFault> {
+        Ok(showing_in(alloc, &self.office, &self.book, inquiry)?)
     }
 
     fn add_transmission(

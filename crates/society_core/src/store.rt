@@ -3,21 +3,19 @@ ghost use Rattle.std.specs.Prelude.{◌≡◌, IsTrue, None, ⊤};
 ghost use Rattle.cwr_files.specs.FileFault.{file_fault};
 ghost use Rattle.perf_returns.specs.Returns.{return_fault};
 ghost use Rattle.society_core.specs.Answers.{close_refusal, payment_in, pool_known_as};
-ghost use Rattle.society_core.specs.Asked.{AddsArrival, AreCreditsOf, AreVerdictsOf, IsAckOf, IsBalanceOf, IsPlaceOf, KnowsAs, KnowsEndAs, AddsEnd, IsReturnKnownAs, IsStandingOf, IsWorkOf};
+ghost use Rattle.society_core.specs.Asked.{AddsArrival, AddsEnd, IsPlaceOf, IsReturnKnownAs, IsShownTo, KnowsAs, KnowsEndAs};
 ghost use Rattle.society_core.specs.Book.{body_at, end_at, order_at, return_at, with_pool, with_return};
 ghost use Rattle.society_core.specs.Ends.{ended_before, number_past, place_stated};
 ghost use Rattle.society_core.specs.State.{Addition, IsState, Question, State};
 
-use crate::answers::{SenderStatus, Work};
+use crate::inquiry::{Inquiry, Showing};
 use crate::order::PoolOrder;
 use crate::return_key::ReturnKey;
 use cwr_files::FileReader;
-use pool_split::Credit;
 use share_rules::Office;
 use std::alloc::{AllocError, AllocFailed, Global};
 use thiserror::Error;
-use work_ids::{Account, PoolNumber, SegmentEnd, SenderKey, TransmissionNumber, WorkNumber};
-use works_core::Verdict;
+use work_ids::{PoolNumber, SegmentEnd, SenderKey, TransmissionNumber};
 
 /// What the book has under a number, beside a content that is asked for.
 #[derive(Clone, Copy, Debug, PartialEq, Eq)]
@@ -126,15 +124,6 @@ pub trait Store {
     ) -> Result<KnownTransmission, StoreFault>
         ensures question { Question (state self.old) (state self.new) result (KnowsAs (state self.old) sender.now number body.now) };
 
-    /// The acknowledgement of a sender's transmission, none where its number is not in the line.
-    fn ack(
-        &mut self,
-        alloc: Global,
-        sender: &SenderKey,
-        number: TransmissionNumber,
-    ) -> Result<Option<Vec<u8>>, StoreFault>
-        ensures { Question (state self.old) (state self.new) result (IsAckOf (state self.old) sender.now number) };
-
     /// Where a number of a sender stands.
     fn place(
         &mut self,
@@ -146,28 +135,6 @@ pub trait Store {
     /// What the book has of the segment of an end.
     fn known_end(&mut self, sender: &SenderKey, end: &SegmentEnd) -> Result<KnownEnd, StoreFault>
         ensures { Question (state self.old) (state self.new) result (KnowsEndAs (state self.old) sender.now end.now) };
-
-    /// How a sender stands: its front, and the numbers of its held transmissions, ascending.
-    fn standing(&mut self, alloc: Global, sender: &SenderKey) -> Result<SenderStatus, StoreFault>
-        ensures { Question (state self.old) (state self.new) result (IsStandingOf (state self.old) sender.now) };
-
-    /// A sender's work as its version at the sender's front shows it, none where it has none.
-    fn work(
-        &mut self,
-        alloc: Global,
-        sender: &SenderKey,
-        work: &WorkNumber,
-    ) -> Result<Option<Work>, StoreFault>
-        ensures { Question (state self.old) (state self.new) result (IsWorkOf (state self.old) sender.now work.now) };
-
-    /// The verdicts of a sender's transmission, none where its number is not in the line.
-    fn verdicts(
-        &mut self,
-        alloc: Global,
-        sender: &SenderKey,
-        number: TransmissionNumber,
-    ) -> Result<Option<Vec<Verdict>>, StoreFault>
-        ensures { Question (state self.old) (state self.new) result (AreVerdictsOf (state self.old) sender.now number) };
 
     /// Whether the book has a return, another one under its key, or none.
     fn known_return(&mut self, key: &ReturnKey, body: &[u8]) -> Result<Known, StoreFault>
@@ -181,17 +148,9 @@ pub trait Store {
     fn known_pool(&mut self, pool: PoolNumber, order: &PoolOrder) -> Result<Known, StoreFault>
         ensures { Question (state self.old) (state self.new) result (λ known. known ≡ pool_known_as (state self.old).book pool order.now) };
 
-    /// The credits of a pool, none where it is not closed.
-    fn credits(
-        &mut self,
-        alloc: Global,
-        pool: PoolNumber,
-    ) -> Result<Option<Vec<Credit>>, StoreFault>
-        ensures { Question (state self.old) (state self.new) result (AreCreditsOf (state self.old) pool) };
-
-    /// The balance of an account, in units of money.
-    fn balance(&mut self, alloc: Global, account: &Account) -> Result<u64, StoreFault>
-        ensures { Question (state self.old) (state self.new) result (IsBalanceOf (state self.old) account.now) };
+    /// What is shown to a question, none where it is not there.
+    fn show(&mut self, alloc: Global, inquiry: &Inquiry) -> Result<Option<Showing>, StoreFault>
+        ensures { Question (state self.old) (state self.new) result (IsShownTo (state self.old).office (state self.old).book inquiry.now) };
 
     /// Adds what a reader was fed, a transmission of its sender, under a number that is free and not above the end of its
     /// segment, and tells where the number stands then. The store may keep the bytes as they lie. After an error the book is

@@ -10,24 +10,22 @@ ghost use Rattle.society_book.specs.Kept.{IsAtRest, Rests};
 use crate::fault::store_answer;
 use cwr_files::FileReader;
 use memory_store::MemoryStore;
-use pool_split::Credit;
 use share_rules::Office;
 use society_arrivals::{arrive, state_end};
 use society_book::{
-    ack_of, balance_of, known_end_of, known_of, known_pool_of, known_return_of, payment_of,
-    place_of, pool_credits, status_of, verdicts_of, work_of, write_return,
+    known_end_of, known_of, known_pool_of, known_return_of, payment_of, place_of, show,
+    write_return,
 };
 use society_closings::close;
 use society_core::{
-    Known, KnownEnd, KnownTransmission, NumberPlace, Payment, PoolOrder, ReturnKey, SenderStatus,
-    Store, StoreFault, Work,
+    Inquiry, Known, KnownEnd, KnownTransmission, NumberPlace, Payment, PoolOrder, ReturnKey,
+    Showing, Store, StoreFault,
 };
 use society_rows::{Found, Idle, OfficeRow, ReturnRow, RowFault, create, layout_found};
 use sqlite::{Alter, Connection};
 use sqlite_schema::schema::Schema;
 use std::alloc::Global;
-use work_ids::{Account, PoolNumber, SegmentEnd, SenderKey, TransmissionNumber, WorkNumber};
-use works_core::Verdict;
+use work_ids::{PoolNumber, SegmentEnd, SenderKey, TransmissionNumber};
 
 /// Failures that a store has counted when it begins.
 const NO_FAILURES: u64 = 0;
@@ -65,17 +63,6 @@ impl<S: Alter> Store for Tables<S> {
         store_answer(&mut self.failures, answer)
     }
 
-    fn ack(
-        &mut self,
-        alloc: Global,
-        sender: &SenderKey,
-        number: TransmissionNumber,
-    ) -> Result<Option<Vec<u8>>, StoreFault> {
-        self.counts_on()?;
-        let answer = ack_of(alloc, &mut self.conn, &self.office, sender, number);
-        store_answer(&mut self.failures, answer)
-    }
-
     fn place(
         &mut self,
         sender: &SenderKey,
@@ -89,34 +76,6 @@ impl<S: Alter> Store for Tables<S> {
     fn known_end(&mut self, sender: &SenderKey, end: &SegmentEnd) -> Result<KnownEnd, StoreFault> {
         self.counts_on()?;
         let answer = known_end_of(&mut self.conn, sender.as_bytes(), end);
-        store_answer(&mut self.failures, answer)
-    }
-
-    fn standing(&mut self, alloc: Global, sender: &SenderKey) -> Result<SenderStatus, StoreFault> {
-        self.counts_on()?;
-        let answer = status_of(alloc, &mut self.conn, sender.as_bytes());
-        store_answer(&mut self.failures, answer)
-    }
-
-    fn work(
-        &mut self,
-        alloc: Global,
-        sender: &SenderKey,
-        work: &WorkNumber,
-    ) -> Result<Option<Work>, StoreFault> {
-        self.counts_on()?;
-        let answer = work_of(alloc, &mut self.conn, &self.office, sender, work);
-        store_answer(&mut self.failures, answer)
-    }
-
-    fn verdicts(
-        &mut self,
-        alloc: Global,
-        sender: &SenderKey,
-        number: TransmissionNumber,
-    ) -> Result<Option<Vec<Verdict>>, StoreFault> {
-        self.counts_on()?;
-        let answer = verdicts_of(alloc, &mut self.conn, sender.as_bytes(), number);
         store_answer(&mut self.failures, answer)
     }
 
@@ -138,19 +97,9 @@ impl<S: Alter> Store for Tables<S> {
         store_answer(&mut self.failures, answer)
     }
 
-    fn credits(
-        &mut self,
-        alloc: Global,
-        pool: PoolNumber,
-    ) -> Result<Option<Vec<Credit>>, StoreFault> {
+    fn show(&mut self, alloc: Global, inquiry: &Inquiry) -> Result<Option<Showing>, StoreFault> {
         self.counts_on()?;
-        let answer = pool_credits(alloc, &mut self.conn, pool.value());
-        store_answer(&mut self.failures, answer)
-    }
-
-    fn balance(&mut self, alloc: Global, account: &Account) -> Result<u64, StoreFault> {
-        self.counts_on()?;
-        let answer = balance_of(alloc, &mut self.conn, account);
+        let answer = show(alloc, &mut self.conn, &self.office, inquiry);
         store_answer(&mut self.failures, answer)
     }
 

@@ -2,7 +2,8 @@
 use crate::stream::Stream;
 use cwr_files::FileReader;
 use society_core::{
-    Answer, Arrival, Desk, PlainStore, Refusal, Request, SenderStatus, Standing, run,
+    Answer, Arrival, Desk, Inquiry, PlainStore, Refusal, Request, SenderStatus, Showing, Standing,
+    run,
 };
 use std::alloc::{AllocError, Global};
 use std::fs;
@@ -128,9 +129,15 @@ fn told_ack(ack: &[u8], wanted: &[u8]) -> &'static str {
 pub fn tell_book(rt: &HostRuntime, desk: &mut Desk<PlainStore>, file: &str) -> Option<String> {
     let alloc = rt.alloc();
     let sender = sender().ok()?;
-    let SenderStatus { front, held } = desk.sender(alloc, &sender).ok()?;
-    let ack = desk.ack(alloc, &sender, number(1).ok()?);
-    let ack = ack.unwrap_or(Vec::new(alloc));
+    let Ok(Showing::Sender(status)) = desk.look_up(alloc, &Inquiry::Sender { sender }) else {
+        return None;
+    };
+    let SenderStatus { front, held } = status;
+    let number = number(1).ok()?;
+    let ack = match desk.look_up(alloc, &Inquiry::Acknowledgement { sender, number }) {
+        Ok(Showing::Acknowledgement(text)) => text,
+        _other => Vec::new(alloc),
+    };
     let ack = told_ack(&ack, &fs::read(rt, file).ok()?);
     format!(in alloc; "front {front}, {} held, {ack}", held.len()).ok()
 }
@@ -138,7 +145,11 @@ pub fn tell_book(rt: &HostRuntime, desk: &mut Desk<PlainStore>, file: &str) -> O
 /// Tells the version of a work: its transmission, its place there, its ordinal, and its revision.
 pub fn tell_work(alloc: Global, desk: &mut Desk<PlainStore>, name: &str) -> Option<String> {
     let work = work(name.as_bytes()).ok()?;
-    let version = desk.work(alloc, &sender().ok()?, &work).ok()?.version;
+    let sender = sender().ok()?;
+    let Ok(Showing::Work(shown)) = desk.look_up(alloc, &Inquiry::Work { sender, work }) else {
+        return None;
+    };
+    let version = shown.version;
     let transmission = version.transmission.value();
     format!(in alloc;
         "{transmission} {} {} {}",

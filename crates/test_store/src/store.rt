@@ -4,15 +4,13 @@ ghost use Rattle.society_core.specs.declared.store.StoreFault.TheVariants.{Refus
 ghost use Rattle.test_store.specs.Failing.{MediumFails, failing_state};
 
 use cwr_files::FileReader;
-use pool_split::Credit;
 use share_rules::Office;
 use society_core::{
-    Known, KnownEnd, KnownTransmission, NumberPlace, Payment, PoolOrder, ReturnKey, SenderStatus,
-    Store, StoreFault, Work,
+    Inquiry, Known, KnownEnd, KnownTransmission, NumberPlace, Payment, PoolOrder, ReturnKey,
+    Showing, Store, StoreFault,
 };
 use std::alloc::Global;
-use work_ids::{Account, PoolNumber, SegmentEnd, SenderKey, TransmissionNumber, WorkNumber};
-use works_core::Verdict;
+use work_ids::{PoolNumber, SegmentEnd, SenderKey, TransmissionNumber};
 
 /// A store over an empty book whose medium fails at every call, as a disk that is gone: it answers nothing and adds nothing.
 #[derive(Drop)]
@@ -69,15 +67,6 @@ impl Store for FailingStore {
         self.refuse()
     }
 
-    fn ack(
-        &mut self,
-        _alloc: Global,
-        _sender: &SenderKey,
-        _number: TransmissionNumber,
-    ) -> Result<Option<Vec<u8>>, StoreFault> {
-        self.refuse()
-    }
-
     fn place(
         &mut self,
         _sender: &SenderKey,
@@ -94,32 +83,6 @@ impl Store for FailingStore {
         self.refuse()
     }
 
-    fn standing(
-        &mut self,
-        _alloc: Global,
-        _sender: &SenderKey,
-    ) -> Result<SenderStatus, StoreFault> {
-        self.refuse()
-    }
-
-    fn work(
-        &mut self,
-        _alloc: Global,
-        _sender: &SenderKey,
-        _work: &WorkNumber,
-    ) -> Result<Option<Work>, StoreFault> {
-        self.refuse()
-    }
-
-    fn verdicts(
-        &mut self,
-        _alloc: Global,
-        _sender: &SenderKey,
-        _number: TransmissionNumber,
-    ) -> Result<Option<Vec<Verdict>>, StoreFault> {
-        self.refuse()
-    }
-
     fn known_return(&mut self, _key: &ReturnKey, _body: &[u8]) -> Result<Known, StoreFault> {
         self.refuse()
     }
@@ -132,15 +95,7 @@ impl Store for FailingStore {
         self.refuse()
     }
 
-    fn credits(
-        &mut self,
-        _alloc: Global,
-        _pool: PoolNumber,
-    ) -> Result<Option<Vec<Credit>>, StoreFault> {
-        self.refuse()
-    }
-
-    fn balance(&mut self, _alloc: Global, _account: &Account) -> Result<u64, StoreFault> {
+    fn show(&mut self, _alloc: Global, _inquiry: &Inquiry) -> Result<Option<Showing>, StoreFault> {
         self.refuse()
     }
 

@@ -1,20 +1,21 @@
 -- What every question of a store promises, by what became of its connection.
-use Rattle.std.proofs.Common.{◌≡◌, ◌≤◌, ◌<◌, ◌-◌, ◌^◌, inl, ℕ, ◌&&◌, IsTrue, Result, Ok, Err, IfOk, IfErr, OnOk, refl, subst, sym, arith}
-use Rattle.std.specs.Coded.{Coded, Coded-set, code_by, coded×, coded_ℕ, coded_list}
+use Rattle.std.proofs.Common.{◌≡◌, ◌⊎◌, ◌≤◌, ◌<◌, ◌-◌, ◌^◌, inl, inr, ℕ, ◌&&◌, IsTrue, Result, Ok, Err, IfOk, IfErr, OnOk, refl, subst, sym, arith}
+use Rattle.std.specs.Coded.{Coded, Coded-set, code_by, coded×, coded⊎, coded_ℕ, coded_list}
 use Rattle.std.specs.FinMap as finite
 use Rattle.std.proofs.Math.Logic.{∥∥₁_elim, ∥∥₁_map}
 use Rattle.share_rules.specs.declared.office.Office.{Office}
 use Rattle.society_core.specs.Book.{Book}
 use Rattle.society_core.specs.Keys.{coded_end, coded_return_key, coded_segment_key, coded_transmission_key}
 use Rattle.society_core.specs.Orders.{coded_order}
-use Rattle.society_core.specs.Requests.{Shown}
+use Rattle.society_core.specs.Requests.{Acknowledged, Credited, Described, Judged, Owed, Shown, Showing, Stands}
 use Rattle.share_rules.specs.contracts.holder.Holder as holder
 use Rattle.works_core.specs.contracts.version.WorkVersion as version
-use Rattle.society_core.specs.State as store
 use Rattle.society_core.specs.State.{HasCause, Question}
 use Rattle.pool_split.specs.contracts.claim.Credit as credit
 use Rattle.pool_split.specs.declared.claim.Credit.{Credit}
 use Rattle.works_core.specs.contracts.verdict.Verdict as verdict
+use Rattle.work_ids.specs.contracts.account.Account as account
+use Rattle.work_ids.specs.declared.account.Account.{Account}
 use Rattle.works_core.specs.declared.verdict.Verdict.{Verdict}
 use Rattle.std.specs.Coded.{coded_option}
 use Rattle.std.proofs.Common.{List, Option}
@@ -157,12 +158,6 @@ one_number n m = Coded-set coded_ℕ n m
 pub one_payment : (x y : Payment) → IsAlone (x ≡ y)
 one_payment x y = Coded-set payment.the_row.coded x y
 
-pub one_judgment : (x y : Option (List Verdict)) → IsAlone (x ≡ y)
-one_judgment x y = Coded-set (coded_option (coded_list verdict.the_row.coded)) x y
-
-pub one_list : (x y : List ℕ) → IsAlone (x ≡ y)
-one_list x y = Coded-set (coded_list coded_ℕ) x y
-
 -- what is shown of a work as the tuple of its parts
 coded_shown : Coded Shown
 coded_shown =
@@ -172,29 +167,39 @@ coded_shown =
     (λ p. record { number = p.0; version = p.1.0; title = p.1.1.0; iswc = p.1.1.1.0; isrcs = p.1.1.1.1.0; holders = p.1.1.1.1.1 })
     (λ _. refl)
 
-pub one_work : (x y : Option Shown) → IsAlone (x ≡ y)
-one_work x y = Coded-set (coded_option coded_shown) x y
+-- what is shown, as one of six
+abbrev Parts : Type 0
+Parts = List ℕ ⊎ ((ℕ × List ℕ) ⊎ (Shown ⊎ (List Verdict ⊎ (List Credit ⊎ (Account × ℕ)))))
 
-pub one_text : (x y : Option (List ℕ)) → IsAlone (x ≡ y)
-one_text x y = Coded-set (coded_option (coded_list coded_ℕ)) x y
+abbrev split : Showing → Parts
+split (Acknowledged text) = inl text
+split (Stands front held) = inr (inl (front, held))
+split (Described work) = inr (inr (inl work))
+split (Judged verdicts) = inr (inr (inr (inl verdicts)))
+split (Credited credits) = inr (inr (inr (inr (inl credits))))
+split (Owed account units) = inr (inr (inr (inr (inr (account, units)))))
 
-pub pairs_alone : {P Q : Type 0} → IsAlone P → IsAlone Q → IsAlone (P × Q)
-pairs_alone p q x y = λ i. (p x.0 y.0 i, q x.1 y.1 i)
+abbrev join : Parts → Showing
+join (inl text) = Acknowledged text
+join (inr (inl stands)) = Stands stands.0 stands.1
+join (inr (inr (inl work))) = Described work
+join (inr (inr (inr (inl verdicts)))) = Judged verdicts
+join (inr (inr (inr (inr (inl credits))))) = Credited credits
+join (inr (inr (inr (inr (inr owed))))) = Owed owed.0 owed.1
 
--- what follows of an answer is answered
-pub question_as : {T : Type 0} (old new : store.State) (result : Result T StoreFault) (P Q : T → Type 0) → ((x : T) → P x → Q x) → Question old new result P → Question old new result Q
-question_as {T} old new result P Q follows q = record {
-  answer = λ clean. weaker result (q.answer clean);
-  truth = λ honest. weaker result (q.truth honest);
-  answered = q.answered;
-  asks = q.asks;
-  cause = q.cause;
-  refuses = q.refuses;
-}
-  where
-    weaker : (r : Result T StoreFault) → IfOk r P → IfOk r Q
-    weaker (Ok x) h = follows x h
-    weaker (Err fault) h = tt
+join_split : (shown : Showing) → join (split shown) ≡ shown
+join_split (Acknowledged text) = refl
+join_split (Stands front held) = refl
+join_split (Described work) = refl
+join_split (Judged verdicts) = refl
+join_split (Credited credits) = refl
+join_split (Owed account units) = refl
 
-pub one_payout : (x y : Option (List Credit)) → IsAlone (x ≡ y)
-one_payout x y = Coded-set (coded_option (coded_list credit.the_row.coded)) x y
+coded_showing : Coded Showing
+coded_showing =
+    code_by Parts
+    (coded⊎ (coded_list coded_ℕ) (coded⊎ (coded× coded_ℕ (coded_list coded_ℕ)) (coded⊎ coded_shown (coded⊎ (coded_list verdict.the_row.coded) (coded⊎ (coded_list credit.the_row.coded) (coded× account.the_row.coded coded_ℕ))))))
+    split join join_split
+
+pub one_showing : (x y : Option Showing) → IsAlone (x ≡ y)
+one_showing x y = Coded-set (coded_option coded_showing) x y
