@@ -1,5 +1,5 @@
 //! The rows of transmissions, each read by its key: of a body nothing is kept.
-ghost use Rattle.std.specs.Prelude.{◌≡◌, Some, None, IfOk, false, true, if◌then◌else◌};
+ghost use Rattle.std.specs.Prelude.{◌≡◌, Some, None, false, true, if◌then◌else◌};
 ghost use Rattle.book_audit.specs.Examining.{Examines};
 ghost use Rattle.society_book.specs.BookRows.{transmission_key_of};
 ghost use Rattle.society_rows.specs.Between.{Within};
@@ -8,40 +8,36 @@ ghost use Rattle.book_audit.specs.Judging.{AreSent, AreSentKeys, is_one_right, i
 
 use crate::AuditFault;
 use crate::reading::ask;
-use cwr_files::{ReadFault, read_transmission};
+use cwr_files::find_fault;
 use society_core::TransmissionKey;
 use society_rows::{Question, TransmissionKeyRow, TransmissionRow};
 use sqlite::{Alter, Row, Transaction};
-use std::alloc::{AllocError, Global};
+use std::alloc::Global;
 use work_ids::{SenderKey, TransmissionNumber};
 
 // Whether the row of a transmission may stand in a book.
-fn may_stand(alloc: Global, row: &Row) -> Result<bool, AllocError>
-    ensures { IfOk result (λ right. right ≡ is_right_sent row.now) }
+fn may_stand(row: &Row) -> bool
+    ensures { result ≡ is_right_sent row.now }
 {
     let Ok(row) = TransmissionRow::from_row(row) else {
-        return Ok(false);
+        return false;
     };
     let Ok(sender) = SenderKey::from_bytes(row.sender) else {
-        return Ok(false);
+        return false;
     };
     if TransmissionNumber::from_u32(row.number).is_none() {
-        return Ok(false);
+        return false;
     }
-    match read_transmission(alloc, row.body, &sender) {
-        Ok(_) => Ok(true),
-        Err(ReadFault::File(_)) => Ok(false),
-        Err(ReadFault::Memory) => Err(AllocError),
-    }
+    find_fault(row.body, &sender).is_none()
 }
 
 // Whether rows are one that may stand in a book.
-fn is_alone_right(alloc: Global, rows: &[Row]) -> Result<bool, AllocError>
-    ensures { IfOk result (λ right. right ≡ is_one_right is_right_sent rows.now) }
+fn is_alone_right(rows: &[Row]) -> bool
+    ensures { result ≡ is_one_right is_right_sent rows.now }
 {
     match rows {
-        [row] => may_stand(alloc, row),
-        _ => Ok(false),
+        [row] => may_stand(row),
+        _ => false,
     }
 }
 
@@ -61,11 +57,7 @@ fn sent_key(row: &Row) -> Option<TransmissionKey>
 
 // The key of a transmission that a row is; `Damaged` where it is none, or where the database has not one transmission under it that may
 // stand in a book.
-fn sent_at<S: Alter>(
-    alloc: Global,
-    tx: &mut Transaction<'_, S>,
-    row: &Row,
-) -> Result<TransmissionKey, AuditFault>
+fn sent_at<S: Alter>(tx: &mut Transaction<'_, S>, row: &Row) -> Result<TransmissionKey, AuditFault>
     ensures examined { Within S.Store tx.old tx.new (Examines (λ db. is_sent_at db row.now ≡ false)) result
         (λ db key. (key ≡ transmission_key_of row.now) × (is_sent_at db row.now ≡ true)) }
 {
@@ -76,7 +68,7 @@ fn sent_at<S: Alter>(
         tx,
         Question::Transmission(key.sender.as_bytes(), key.number.value()),
     )?;
-    if is_alone_right(alloc, rows.as_slice())? {
+    if is_alone_right(rows.as_slice()) {
         Ok(key)
     } else {
         Err(AuditFault::Damaged)
@@ -93,7 +85,7 @@ pub(crate) fn sent_in<S: Alter>(
     let rows = ask(tx, Question::TransmissionKeys)?;
     let mut keys = Vec::with_capacity(alloc, rows.len())?;
     for row in rows.as_slice() {
-        let key = sent_at(alloc, tx, row)?;
+        let key = sent_at(tx, row)?;
         keys.push(key)?;
     }
     Ok(keys)

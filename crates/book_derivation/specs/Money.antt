@@ -24,13 +24,13 @@ use Rattle.book_audit.specs.declared.totals.Totals.{Totals}
 use Rattle.book_derivation.specs.Deriving.{HasNoMoney}
 
 -- these lines of credits are added, and nothing else
-pub record AddsLines (lines : List Row) (old new : Trees) : Type 0 where
+pub record AddsCreditLines (lines : List Row) (old new : Trees) : Type 0 where
   pub rows : IsPermutation (lines ++ rows_in layout.credits_table old) (rows_in layout.credits_table new)
   pub others : KeepsOthers layout.credits_table old new
 
 -- the lines of these credits of a pool are added, and nothing else
 abbrev pub AddsCredits : ℕ → List Credit → Trees → Trees → Type 0
-AddsCredits pool credits = AddsLines (credit_lines pool credits)
+AddsCredits pool credits = AddsCreditLines (credit_lines pool credits)
 
 -- these are the credits that a pool pays by the tables, where the works are listed that it looks for, and their lines are added
 pub record WritesPool (office : Office) (pool : ℕ) (order : Order) (works : PoolWorks) (old new : Trees) (credits : List Credit) : Type 0 where

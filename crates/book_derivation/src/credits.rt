@@ -3,7 +3,7 @@ ghost use Rattle.std.specs.Prelude.{◌≡◌, map};
 ghost use Rattle.book_audit.specs.Examining.{Never};
 ghost use Rattle.book_derivation.specs.Deriving.{Derives};
 ghost use Rattle.book_audit.specs.Paying.{CannotPayAll};
-ghost use Rattle.book_derivation.specs.Money.{AddsCredits, AddsLines, CannotPayListed, WritesCredits, WritesListed, WritesPool};
+ghost use Rattle.book_derivation.specs.Money.{AddsCredits, AddsCreditLines, CannotPayListed, WritesCredits, WritesListed, WritesPool};
 ghost use Rattle.pool_split.specs.Credits.{credits_together};
 ghost use Rattle.society_closings.specs.Blamed.{CannotPayAmong};
 ghost use Rattle.society_closings.specs.Closings.{lines_from};
@@ -26,7 +26,7 @@ fn add_lines<S: Alter>(
     tx: &mut Transaction<'_, S>,
     lines: &[CreditRow<'_>],
 ) -> Result<(), AuditFault>
-    ensures derives { Within S.Store tx.old tx.new (Derives Never) result (λ before after _. AddsLines (map credit_values lines.now) before after) }
+    ensures derives { Within S.Store tx.old tx.new (Derives Never) result (λ before after _. AddsCreditLines (map credit_values lines.now) before after) }
 {
     wrote(add_all(tx, lines))
 }
@@ -39,7 +39,7 @@ fn write_from<S: Alter>(
     first: usize,
     credits: &[Credit],
 ) -> Result<(), AuditFault>
-    ensures derives { Within S.Store tx.old tx.new (Derives Never) result (λ before after _. AddsLines (lines_from pool first credits.now) before after) }
+    ensures derives { Within S.Store tx.old tx.new (Derives Never) result (λ before after _. AddsCreditLines (lines_from pool first credits.now) before after) }
 {
     let texts = worked_out(texts_of(alloc, credits))?;
     let lines = worked_out(line_rows(alloc, pool, first, credits, texts.as_slice()))?;

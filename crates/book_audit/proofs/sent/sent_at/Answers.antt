@@ -7,8 +7,8 @@ use Rattle.book_audit.proofs.lemmas.entries.KeyForms.{some_if}
 use Rattle.book_audit.proofs.lemmas.entries.SentRows.{sent_asked}
 use Rattle.book_audit.proofs.sent.sent_at.Goals as goal
 
-pub returns-then-branch : goal.returns-then-branch
-returns-then-branch g c = record {
+pub returns-then-is_alone_right : goal.returns-then-is_alone_right
+returns-then-is_alone_right g c = record {
   examined = record {
     same_reference = search rules;
     says =
@@ -16,7 +16,7 @@ returns-then-branch g c = record {
         let row = c.args.row.now in
         let key = some_if _ _ _ _ c.sent_key.ensures c.in-Some.is in
         examines_as _ _ old (state g.S.Store c.ask.new.tx.conn.now) c.in_ok-rows.rows (Ok c.in-Some.key) _ _ (rw (c.as_bytes.ensures.bytes, c.value.ensures.value) at c.in_ok-rows.ensures.examined.says)
-        (λ lists. (key.1, sent_asked old.now.trees row c.in-Some.key c.in_ok-rows.rows.items key.0 key.1 lists ∙ ap (is_one_right is_right_sent) (sym c.as_slice.ensures.value) ∙ sym c.in_ok-is_alone_right.ensures ∙ c.if-branch.true))
+        (λ lists. (key.1, sent_asked old.now.trees row c.in-Some.key c.in_ok-rows.rows.items key.0 key.1 lists ∙ ap (is_one_right is_right_sent) (sym c.as_slice.ensures.value) ∙ sym c.is_alone_right.ensures ∙ c.if-is_alone_right.true))
         (λ lists. tt);
   };
 }
@@ -31,6 +31,6 @@ returns g c = record {
         let key = some_if _ _ _ _ c.sent_key.ensures c.in-Some.is in
         examines_as _ _ old (state g.S.Store c.ask.new.tx.conn.now) c.in_ok-rows.rows (Err _) _ _ (rw (c.as_bytes.ensures.bytes, c.value.ensures.value) at c.in_ok-rows.ensures.examined.says)
         (λ lists. tt)
-        (λ lists. sent_asked old.now.trees row c.in-Some.key c.in_ok-rows.rows.items key.0 key.1 lists ∙ ap (is_one_right is_right_sent) (sym c.as_slice.ensures.value) ∙ sym c.in_ok-is_alone_right.ensures ∙ c.if-branch.false);
+        (λ lists. sent_asked old.now.trees row c.in-Some.key c.in_ok-rows.rows.items key.0 key.1 lists ∙ ap (is_one_right is_right_sent) (sym c.as_slice.ensures.value) ∙ sym c.is_alone_right.ensures ∙ c.if-is_alone_right.false);
   };
 }

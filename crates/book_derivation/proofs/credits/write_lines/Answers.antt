@@ -10,7 +10,7 @@ use Rattle.society_closings.specs.Closings.{lines_from}
 use Rattle.society_closings.proofs.lemmas.money.PoolWrites.{lines_after}
 use Rattle.book_audit.specs.Examining.{Never}
 use Rattle.book_audit.proofs.lemmas.credits.Portions.{together_next}
-use Rattle.book_derivation.specs.Money.{AddsCredits, AddsLines}
+use Rattle.book_derivation.specs.Money.{AddsCredits, AddsCreditLines}
 use Rattle.book_derivation.proofs.lemmas.Additions.{added_behind, others_on}
 use Rattle.book_derivation.proofs.lemmas.Derivings.{derives_then}
 use Rattle.book_derivation.proofs.credits.write_lines.Goals as goal
@@ -32,7 +32,7 @@ loop-portion-preserved g c =
     record {
       same_reference = c.write_from.ensures.derives.same_reference ∙ c.loop-portion.invariant.same_reference;
       line = omega (arith, after, c.len.ensures, ap length its, c.loop-portion.invariant.line, ap length next ∙ length-append done one);
-      derives = derives_then Never Never Never old mid new tt (Ok tt) (λ before after (done_now : Unit {0}). AddsCredits pool done before after) (λ before after (done_now : Unit {0}). AddsLines (lines_from pool (length done) one) before after)
+      derives = derives_then Never Never Never old mid new tt (Ok tt) (λ before after (done_now : Unit {0}). AddsCredits pool done before after) (λ before after (done_now : Unit {0}). AddsCreditLines (lines_from pool (length done) one) before after)
           (λ before after (done_now : Unit {0}). AddsCredits pool (credits_together (take (i + 1) all)) before after) c.loop-portion.invariant.derives
           (rw (c.as_slice.ensures.value, its, c.loop-portion.invariant.line) at c.in_ok-write_from.ensures.derives.says)
           (λ y own later before writes. record {

@@ -4,7 +4,7 @@ use Rattle.std.proofs.lemmas.Grind.{flat_map-append}
 use Rattle.std.proofs.lemmas.List.{take_more}
 use Rattle.pool_split.specs.Credits.{credits_together}
 use Rattle.pool_split.specs.declared.claim.Credit.{Credit}
-use Rattle.book_audit.specs.Balances.{AreTotalsOf, row_by_units}
+use Rattle.book_audit.specs.Balances.{row_by_units}
 use Rattle.book_audit.proofs.totals.Totals.add_portions.Goals as goal
 
 pub loop-portion-preserved : goal.loop-portion-preserved
