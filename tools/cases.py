@@ -27,7 +27,7 @@ COUNTS_OF_ROWS = {
     "crates/test_rows/stdout": re.compile(r"^(\S+): (\d+) requests, as wanted$", re.M),
     "crates/test_desk/data/rows.cases": re.compile(r"^serve-row (\S+) -> served (\d+), all$", re.M),
 }
-PROGRAMS_OF_CASES = ("test_cases", "test_desk")
+PROGRAMS_OF_CASES = ("test_cases", "test_desk", "test_tables")
 TRIALS = "trials"
 TOKEN = re.compile(
     r"""(?P<comment>//[^\n]*)

@@ -1,74 +1,73 @@
 //! Rows as the types of their tables.
-use crate::book::SENDER;
+use crate::told::words;
 use society_rows::{
-    BalanceRow, FrontRow, MechanicalPoolRow, OfficeRow, Question, RowFault, SegmentEndRow,
-    TransmissionRow, answer,
+    BalanceRow, FrontRow, MechanicalPoolRow, OfficeRow, RowFault, SegmentEndRow, TransmissionRow,
 };
-use sqlite::{Alter, Row, Transaction};
+use sqlite::Row;
+use std::alloc::{AllocError, Global};
 use work_ids::Segment;
 
-/// What has to be there.
-#[derive(Clone, Copy)]
-pub enum Typed {
-    Office,
-    Second,
-    Front,
-    Balance,
-    Ends,
-    Mechanical,
+/// Bytes as they are read.
+fn text_of(bytes: &[u8]) -> &str {
+    str::from_utf8(bytes).unwrap_or("?")
 }
 
-/// Whether a row is the end of this segment, with these numbers.
-fn is_end(row: &Row, segment: Segment, last: u32, next: u32) -> bool {
-    match SegmentEndRow::from_row(row) {
-        Ok(end) => end.segment == segment && end.last == last && end.next == next,
-        Err(_) => false,
+/// A segment as it is written.
+fn segment_text(alloc: Global, segment: Segment) -> Result<String, AllocError> {
+    match segment {
+        Segment::Plain => String::from_str(alloc, "plain"),
+        Segment::Year(year) => format!(in alloc; "{year}"),
     }
 }
 
-/// Whether rows are what has to be there.
-fn are(rows: &[Row], what: Typed) -> bool {
-    match (what, rows) {
-        (Typed::Office, [row]) => match OfficeRow::from_row(row) {
-            Ok(office) => office.society == 900 && office.name == b"EXAMPLE SOCIETY".as_slice(),
-            Err(_) => false,
-        },
-        (Typed::Second, [row]) => match TransmissionRow::from_row(row) {
-            Ok(read) => {
-                read.number == 2 && read.sender == SENDER && read.body == b"second".as_slice()
-            }
-            Err(_) => false,
-        },
-        (Typed::Front, [row]) => match FrontRow::from_row(row) {
-            Ok(front) => front.front == 2 && front.works == 1,
-            Err(_) => false,
-        },
-        (Typed::Balance, [row]) => match BalanceRow::from_row(row) {
-            Ok(balance) => balance.units == 999_999_999_999_999_999,
-            Err(_) => false,
-        },
-        (Typed::Ends, [plain, year]) => {
-            is_end(plain, Segment::Plain, 2, 0) && is_end(year, Segment::Year(0), 9_999, 99)
+/// The values of a row as the type of its table.
+fn values_of(alloc: Global, kind: &str, row: &Row) -> Result<String, RowFault> {
+    Ok(match kind {
+        "office" => {
+            let row = OfficeRow::from_row(row)?;
+            let name = text_of(row.name);
+            format!(in alloc; "{} {} {name}", row.society, row.territory)?
         }
-        (Typed::Mechanical, [row]) => match MechanicalPoolRow::from_row(row) {
-            Ok(marked) => marked.pool == 7,
-            Err(_) => false,
-        },
-        _ => false,
-    }
+        "transmission" => {
+            let row = TransmissionRow::from_row(row)?;
+            let (sender, body) = (text_of(row.sender), text_of(row.body));
+            format!(in alloc; "{sender} {} {body}", row.number)?
+        }
+        "front" => {
+            let row = FrontRow::from_row(row)?;
+            let sender = text_of(row.sender);
+            format!(in alloc; "{sender} {} {}", row.front, row.works)?
+        }
+        "balance" => {
+            let row = BalanceRow::from_row(row)?;
+            let account = text_of(row.account);
+            format!(in alloc; "{account} {}", row.units)?
+        }
+        "end" => {
+            let row = SegmentEndRow::from_row(row)?;
+            let sender = text_of(row.sender);
+            let segment = segment_text(alloc, row.segment)?;
+            format!(in alloc; "{sender} {segment} {} {}", row.last, row.next)?
+        }
+        "mechanical" => {
+            let row = MechanicalPoolRow::from_row(row)?;
+            format!(in alloc; "{}", row.pool)?
+        }
+        _ => String::from_str(alloc, "no such type")?,
+    })
 }
 
-/// Whether it is there; the office's row is no transmission.
-pub fn is_there<S: Alter>(tx: &mut Transaction<'_, S>, what: Typed) -> Result<bool, RowFault> {
-    let question = match what {
-        Typed::Office => Question::Office,
-        Typed::Second => Question::Transmission(SENDER, 2),
-        Typed::Front => Question::Front(SENDER),
-        Typed::Balance => Question::Balance(b"UNCLAIMED"),
-        Typed::Ends => Question::Ends(SENDER),
-        Typed::Mechanical => Question::Mechanical(7),
-    };
-    let rows = answer(tx, question)?;
-    let is_second = matches!(what, Typed::Second);
-    Ok(are(rows.as_slice(), what) && are(rows.as_slice(), Typed::Second) == is_second)
+/// Tells rows as the type of their table, `;` behind each; of one that has other columns, that it is not read; `none` of no row.
+pub fn told_typed(alloc: Global, kind: &str, rows: &[Row]) -> Option<String> {
+    if rows.is_empty() {
+        return words(alloc, "none");
+    }
+    let mut text = String::new(alloc);
+    for row in rows {
+        let values = values_of(alloc, kind, row);
+        let values = values.unwrap_or(String::from_str(alloc, "not read").ok()?);
+        text.push_str(values.as_str()).ok()?;
+        text.push(';').ok()?;
+    }
+    Some(text)
 }

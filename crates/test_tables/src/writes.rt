@@ -1,195 +1,133 @@
-//! What is written into a book.
-use crate::book::SENDER;
+//! Rows that are written.
+use crate::lists::write_list;
+use crate::told::{done, words};
 use society_rows::{
-    BalanceRow, CreditRow, FrontRow, MechanicalPoolRow, NewRows, PoolCutRow, PoolReturnRow,
-    PoolRow, RecordingRow, ReturnRow, RowFault, SegmentEndRow, TransmissionRow, VerdictRow,
-    VersionRow, add, add_all, add_units, put_front,
+    BalanceRow, FrontRow, MechanicalPoolRow, NewRows, PoolRow, ReturnRow, RowFault, SegmentEndRow,
+    TransmissionRow, add, add_units, put_front,
 };
 use sqlite::{Alter, Transaction};
+use std::alloc::Global;
 use work_ids::Segment;
 
-/// One write: rows that one statement adds, a list of rows, a front that is put, or units that are added to an account's.
-#[derive(Clone, Copy)]
-pub enum Write {
-    Rows(NewRows<'static>),
-    Cuts(&'static [PoolCutRow<'static>]),
-    Paid(&'static [PoolReturnRow<'static>]),
-    Versions(&'static [VersionRow<'static>]),
-    Recordings(&'static [RecordingRow<'static>]),
-    Verdicts(&'static [VerdictRow<'static>]),
-    Credits(&'static [CreditRow<'static>]),
-    Front(FrontRow<'static>),
-    Units(&'static [u8], i64),
-}
-
-// These have no clause, so that the proof of a test does not carry the state of each call, and are over any store:
-// over a store by its name each of them takes a minute to prove, and so a second.
-
-/// Writes rows.
-pub fn write_one<S: Alter>(tx: &mut Transaction<'_, S>, what: Write) -> Result<(), RowFault> {
-    match what {
-        Write::Rows(rows) => add(tx, rows),
-        Write::Cuts(rows) => add_all(tx, rows),
-        Write::Paid(rows) => add_all(tx, rows),
-        Write::Versions(rows) => add_all(tx, rows),
-        Write::Recordings(rows) => add_all(tx, rows),
-        Write::Verdicts(rows) => add_all(tx, rows),
-        Write::Credits(rows) => add_all(tx, rows),
-        Write::Front(row) => put_front(tx, &row),
-        Write::Units(account, units) => add_units(tx, account, units),
+/// Tells what came of a write.
+pub fn told_result(alloc: Global, written: Result<(), RowFault>) -> Option<String> {
+    match written {
+        Ok(()) => done(alloc),
+        Err(RowFault::Overflow) => words(alloc, "overflow"),
+        Err(RowFault::Refused(_)) => words(alloc, "refused"),
+        Err(fault) => format!(in alloc; "{fault}").ok(),
     }
 }
 
-/// Writes one after another, up to the first that fails.
-pub fn write_all<S: Alter>(tx: &mut Transaction<'_, S>, writes: &[Write]) -> Result<(), RowFault> {
-    for what in writes {
-        write_one(tx, *what)?;
+/// The segment that a word names: `plain`, or a year by its last two digits.
+pub fn segment_of(word: &str) -> Option<Segment> {
+    match word {
+        "plain" => Some(Segment::Plain),
+        _ => Some(Segment::Year(word.parse::<u8>().ok()?)),
     }
-    Ok(())
 }
 
-/// Two transmissions, the later one first, and a return.
-pub const BOOK: &[Write] = &[
-    Write::Rows(NewRows::Transmission(&TransmissionRow {
-        sender: SENDER,
-        number: 2,
-        body: b"second",
-    })),
-    Write::Rows(NewRows::Transmission(&TransmissionRow {
-        sender: SENDER,
-        number: 1,
-        body: b"",
-    })),
-    Write::Rows(NewRows::Return(&ReturnRow {
-        reporter: b"RADIO1",
-        number: 3,
-        body: b"isrc,plays,seconds",
-    })),
-];
+/// The number that a word spells.
+pub fn count(word: &str) -> Option<u32> {
+    word.parse::<u32>().ok()
+}
 
-/// A pool, its cut and the return that it pays.
-pub const POOLS: &[Write] = &[
-    Write::Rows(NewRows::Pool(&PoolRow {
-        pool: 7,
-        amount: 1_000_000_000_000,
-    })),
-    Write::Cuts(&[PoolCutRow {
-        pool: 7,
-        sender: SENDER,
-        number: 2,
-    }]),
-    Write::Paid(&[PoolReturnRow {
-        reporter: b"RADIO1",
-        number: 3,
-        pool: 7,
-    }]),
-];
+/// The number that a word spells, which may be long, or below 0.
+pub fn amount(word: &str) -> Option<i64> {
+    word.parse::<i64>().ok()
+}
 
-/// A work's versions, the later one first, and a recording.
-pub const WORKS: &[Write] = &[
-    Write::Versions(&[
-        VersionRow {
-            sender: SENDER,
-            work: b"W1",
-            revision: 1,
-            number: 2,
-            place: 4,
-            ordinal: 99_999_999_999,
-        },
-        VersionRow {
-            sender: SENDER,
-            work: b"W1",
-            revision: 0,
-            number: 1,
-            place: 0,
-            ordinal: 99_999_999_999,
-        },
-    ]),
-    Write::Recordings(&[RecordingRow {
-        sender: SENDER,
-        work: b"W1",
-        revision: 0,
-        isrc: b"ATABC2600001",
-    }]),
-];
+/// Writes one row of what comes to the office, of the kind that a word names.
+fn write_row<S: Alter>(
+    tx: &mut Transaction<'_, S>,
+    word: &str,
+    words: &[&str],
+) -> Option<Result<(), RowFault>> {
+    Some(match (word, words) {
+        ("transmission", [sender, number, body @ ..]) => {
+            let (sender, number) = (sender.as_bytes(), count(number)?);
+            let body = body.first().copied().unwrap_or("").as_bytes();
+            let row = TransmissionRow {
+                sender,
+                number,
+                body,
+            };
+            add(tx, NewRows::Transmission(&row))
+        }
+        ("return", [reporter, number, body]) => {
+            let (reporter, number) = (reporter.as_bytes(), count(number)?);
+            let body = body.as_bytes();
+            let row = ReturnRow {
+                reporter,
+                number,
+                body,
+            };
+            add(tx, NewRows::Return(&row))
+        }
+        ("end", [sender, segment, last, next]) => {
+            let (sender, segment) = (sender.as_bytes(), segment_of(segment)?);
+            let (last, next) = (count(last)?, count(next)?);
+            let row = SegmentEndRow {
+                sender,
+                segment,
+                last,
+                next,
+            };
+            add(tx, NewRows::SegmentEnd(&row))
+        }
+        _ => return None,
+    })
+}
 
-/// A verdict and a credit.
-pub const VERDICTS: &[Write] = &[
-    Write::Verdicts(&[VerdictRow {
-        sender: SENDER,
-        number: 1,
-        place: 0,
-        fault: 21,
-        ordinal: 0,
-        revision: 0,
-    }]),
-    Write::Credits(&[CreditRow {
-        pool: 7,
-        line: 0,
-        isrc: b"-",
-        account: b"UNCLAIMED",
-        units: 5,
-    }]),
-];
+/// Writes one row of pools, money and fronts, of the kind that a word names.
+fn write_sum<S: Alter>(
+    tx: &mut Transaction<'_, S>,
+    word: &str,
+    words: &[&str],
+) -> Option<Result<(), RowFault>> {
+    Some(match (word, words) {
+        ("pool", [pool, units]) => {
+            let (pool, amount) = (count(pool)?, amount(units)?);
+            add(tx, NewRows::Pool(&PoolRow { pool, amount }))
+        }
+        ("mechanical", [pool]) => {
+            let pool = count(pool)?;
+            add(tx, NewRows::MechanicalPool(&MechanicalPoolRow { pool }))
+        }
+        ("balance", [account, units]) => {
+            let (account, units) = (account.as_bytes(), amount(units)?);
+            add(tx, NewRows::Balance(&BalanceRow { account, units }))
+        }
+        ("units", [account, units]) => add_units(tx, account.as_bytes(), amount(units)?),
+        ("front", [sender, front, works]) => {
+            let sender = sender.as_bytes();
+            let (front, works) = (count(front)?, amount(works)?);
+            put_front(
+                tx,
+                &FrontRow {
+                    sender,
+                    front,
+                    works,
+                },
+            )
+        }
+        _ => return None,
+    })
+}
 
-/// Fronts of two senders, of which one gives way to another.
-pub const FRONTS: &[Write] = &[
-    Write::Front(FrontRow {
-        sender: SENDER,
-        front: 0,
-        works: 0,
-    }),
-    Write::Front(FrontRow {
-        sender: b"PB000000034",
-        front: 1,
-        works: 0,
-    }),
-    Write::Front(FrontRow {
-        sender: SENDER,
-        front: 2,
-        works: 1,
-    }),
-];
-
-/// A balance that gives way to another, of more units.
-pub const BALANCES: &[Write] = &[
-    Write::Rows(NewRows::Balance(&BalanceRow {
-        account: b"UNCLAIMED",
-        units: 5,
-    })),
-    Write::Units(b"UNCLAIMED", 999_999_999_999_999_994),
-];
-
-/// The end of a year.
-pub const YEAR_END: Write = Write::Rows(NewRows::SegmentEnd(&SegmentEndRow {
-    sender: SENDER,
-    segment: Segment::Year(0),
-    last: 9_999,
-    next: 99,
-}));
-
-/// Two ends of one sender, the later segment first, and one of another.
-pub const ENDS: &[Write] = &[
-    YEAR_END,
-    Write::Rows(NewRows::SegmentEnd(&SegmentEndRow {
-        sender: b"PB000000034",
-        segment: Segment::Year(26),
-        last: 0,
-        next: 27,
-    })),
-    Write::Rows(NewRows::SegmentEnd(&SegmentEndRow {
-        sender: SENDER,
-        segment: Segment::Plain,
-        last: 2,
-        next: 0,
-    })),
-];
-
-/// The mark of the book's pool.
-pub const MARK: Write = Write::Rows(NewRows::MechanicalPool(&MechanicalPoolRow { pool: 7 }));
-
-/// The mark of a pool that is not there.
-pub const NO_MARK: Write = Write::Rows(NewRows::MechanicalPool(&MechanicalPoolRow { pool: 8 }));
-
-/// What is marked: the book's pool.
-pub const MECHANICAL: &[Write] = &[MARK];
+/// Writes one row, or the rows of a list, of the kind that a word names; none where it names no kind.
+pub fn write<S: Alter>(
+    alloc: Global,
+    tx: &mut Transaction<'_, S>,
+    word: &str,
+    text: &str,
+) -> Option<Result<(), RowFault>> {
+    let words = text.split(' ').collect::<Vec<&str>>(alloc).ok()?;
+    if let Some(written) = write_row(tx, word, &words) {
+        return Some(written);
+    }
+    match write_sum(tx, word, &words) {
+        Some(written) => Some(written),
+        None => write_list(alloc, tx, word, text),
+    }
+}
