@@ -63,7 +63,7 @@ def words_for(name, below, kit):
     for it in those_below(name, below):
         yield from ["-L", f"dependency={CRATES / it / 'out/rlib'}"]
     yield from ["--antt-project", str(kit / "rattle/logic/antt-project.json"), "--logic-built", str(kit / "logic_built")]
-    yield from ["--links", f"{name}=", "--jobs", "2", "--list-calls"]
+    yield from ["--links", f"{name}=", "--jobs", "1", "--list-calls"]
 
 
 def listed(text):
