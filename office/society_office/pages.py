@@ -3,6 +3,7 @@
 import contextlib
 import datetime
 import functools
+import os
 import pathlib
 import shutil
 from collections.abc import Callable, Iterable, Iterator
@@ -80,31 +81,41 @@ def write_text(target: pathlib.Path, text: str) -> None:
 
 
 @contextlib.contextmanager
-def new_file(target: pathlib.Path) -> Iterator[TextIO]:
-    """A file to write a text into, which takes its place in one step at the end; an OfficeError where it can't be written."""
-    draft = target.with_name(f".{target.name}.new")
+def drafted(target: pathlib.Path) -> Iterator[pathlib.Path]:
+    """Where to write what takes the place of a file in one step at the end, with its mode; an OfficeError where it can't be written.
+
+    A link stays, and the file that it leads to is replaced. What is no file, as a device or a pipe, is written itself.
+    """
+    place = pathlib.Path(os.path.realpath(target))
+    draft = place.with_name(f".{place.name}.new")
     try:
         target.parent.mkdir(parents=True, exist_ok=True)
-        with draft.open("w", encoding="utf-8", newline="") as file:
-            yield file
-        draft.replace(target)
+        if target.exists() and not target.is_file():
+            yield target
+            return
+        yield draft
+        if place.exists():
+            shutil.copymode(place, draft)
+        draft.replace(place)
     except OSError as error:
         raise OfficeError(f"{target} could not be written: {error.strerror}") from error
     finally:
         # (nothing is left of what ended early, for whatever cause)
-        draft.unlink(missing_ok=True)
+        with contextlib.suppress(OSError):
+            draft.unlink()
+
+
+@contextlib.contextmanager
+def new_file(target: pathlib.Path) -> Iterator[TextIO]:
+    """A file to write a text into, which takes its place in one step at the end; an OfficeError where it can't be written."""
+    with drafted(target) as place, place.open("w", encoding="utf-8", newline="") as file:
+        yield file
 
 
 def write_bytes(target: pathlib.Path, content: bytes) -> None:
     """Writes a file in one step, so that it is the old one or the new one; an OfficeError where it can't be written."""
-    draft = target.with_name(f".{target.name}.new")
-    try:
-        target.parent.mkdir(parents=True, exist_ok=True)
-        draft.write_bytes(content)
-        draft.replace(target)
-    except OSError as error:
-        draft.unlink(missing_ok=True)
-        raise OfficeError(f"{target} could not be written: {error.strerror}") from error
+    with drafted(target) as place:
+        place.write_bytes(content)
 
 
 @contextlib.contextmanager

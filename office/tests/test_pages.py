@@ -1,6 +1,9 @@
 """Cells of CSV, pictures, percentages and times of the pages."""
 
+import os
+import pathlib
 import re
+import threading
 import time
 
 import pytest
@@ -52,3 +55,32 @@ def test_times_have_their_zone(zone: str, said: str, monkeypatch: pytest.MonkeyP
     finally:
         monkeypatch.undo()
         time.tzset()
+
+
+def test_a_link_stays_and_a_file_keeps_its_mode(tmp_path: pathlib.Path) -> None:
+    kept, link = tmp_path / "kept.csv", tmp_path / "link.csv"
+    kept.write_text("of before")
+    kept.chmod(0o640)
+    link.symlink_to("kept.csv")
+    pages.write_text(link, "new")
+    assert link.is_symlink() and kept.read_text() == "new" and kept.stat().st_mode & 0o777 == 0o640
+    with pages.new_file(link) as file:
+        file.write("newer")
+    assert link.is_symlink() and kept.read_text() == "newer" and kept.stat().st_mode & 0o777 == 0o640
+    assert sorted(tmp_path.iterdir()) == [kept, link]
+
+
+def test_what_is_no_file_is_written_itself(tmp_path: pathlib.Path) -> None:
+    # As /dev/null is, which would else be a file from then on.
+    pipe, read = tmp_path / "pipe", list[str]()
+    os.mkfifo(pipe)
+    for _ in range(2):
+        reader = threading.Thread(target=lambda: read.append(pipe.read_text()), daemon=True)
+        reader.start()
+        if read:
+            with pages.new_file(pipe) as file:
+                file.write("by lines")
+        else:
+            pages.write_bytes(pipe, b"by bytes")
+        reader.join(60)
+    assert read == ["by bytes", "by lines"] and pipe.is_fifo() and list(tmp_path.iterdir()) == [pipe]
