@@ -10,7 +10,7 @@ from society_office import faults
 from society_office.cwr_faults import CheckedFile, all_faults, checked
 from society_office.errors import OfficeError
 from society_office.fields import ACK_NUMBER, ACK_TITLE, MAX_BODY, WorkFault
-from society_office.numbering import FILE_NAME, as_sent, number_in, path_of, rank_in, rank_of, segment_of, segment_text
+from society_office.numbering import FILE_NAME, as_sent, number_in, path_of, rank_in, segment_of, segment_text
 from society_office.plays import BOM
 from society_office.program import Answer
 from society_office.records import text
@@ -137,7 +137,7 @@ def check_return(office: Asked, path: str, number: int, it: Sent) -> None:
     """Tries a return under the first number from this one on that is free."""
     it.label = it.name
     answer = put(office, f"{path}/{number}", it)
-    while answer is not None and answer.json.get("error") == "reused":
+    while answer is not None and answer.error == "reused":
         number += RETURN_STEP
         answer = put(office, f"{path}/{number}", it)
     if answer is None:
@@ -169,7 +169,9 @@ def check_sender(office: Asked, society: int, territory: int, sender: str, files
     asked = office.ask("GET", f"/v1/senders/{sender}")
     if asked.status != 200:
         raise OfficeError(f"{sender} can't be asked for: {faults.refusal_text('file', asked)}")
-    front = rank_of(asked.json["front"]) or 0
+    if asked.standing is None:
+        raise OfficeError(f"{sender} can't be asked for: what answers tells no front, so it is no office")
+    front, _ = asked.standing
     give_numbers(files, front, society)
     if keeps and are_there(office, sender, front, files, society):
         give_numbers(files, front - len(unnamed(files)), society)
@@ -233,7 +235,7 @@ def take_answer(it: Sent, answer: Answer) -> None:
         it.state = "applied" if answer.json.get("state") == "applied" else "held"
     else:
         it.state, it.refusal = "refused", faults.refusal_text("file", answer)
-        it.is_reused = answer.json.get("error") == "reused"
+        it.is_reused = answer.error == "reused"
     first = it.own.faults[0] if it.own.faults else None
     own = (first.number, first.line) if first else None
     told = (answer.json["fault"], answer.json["line"]) if answer.status == 422 else None

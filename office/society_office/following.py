@@ -9,6 +9,7 @@ from typing import Any
 from society_office.copy import Copy
 from society_office.errors import OfficeError
 from society_office.numbering import as_sent, counted
+from society_office.pages import write_text
 from society_office.resending import Tally
 
 MINUTE = 60
@@ -53,9 +54,7 @@ class Following:
 
     def keep(self, path: pathlib.Path) -> None:
         """Keeps it for next time."""
-        draft = path.with_name(f".{path.name}.new")
-        draft.write_text(json.dumps(dataclasses.asdict(self)))
-        draft.replace(path)
+        write_text(path, json.dumps(dataclasses.asdict(self)))
 
 
 def kept(path: pathlib.Path) -> Following:

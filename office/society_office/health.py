@@ -19,7 +19,8 @@ from society_office import following
 from society_office.book_files import fault_of_files, log_of, offices, office_words
 from society_office.copy import open_copy
 from society_office.errors import OfficeError
-from society_office.numbering import as_sent, rank_of
+from society_office.numbering import as_sent
+from society_office.pages import write_text
 from society_office.program import Office, audited, context_by
 
 GOOD, WARNING, WRONG = 0, 1, 2
@@ -100,10 +101,11 @@ def look_at_answer(it: Looked, limits: Limits, senders: dict[str, int]) -> Itera
         fronts: dict[str, int] = {}
         for sender in senders or {NOBODY: 0}:
             answer = office.ask("GET", f"/v1/senders/{sender}")
-            if answer.status != 200:
-                yield Finding("answer", WRONG, f"{it.address} answered {answer.status} to a question on {sender}")
+            if answer.status != 200 or answer.standing is None:
+                other = ", and with no front: it is no office" if answer.status == 200 else ""
+                yield Finding("answer", WRONG, f"{it.address} answered {answer.status} to a question on {sender}{other}")
                 return
-            fronts[sender] = rank_of(answer.json["front"]) or 0
+            fronts[sender], _ = answer.standing
             if len(fronts) == 1:
                 took = time.monotonic() - begun
                 yield Finding("answer", judged(took, limits.seconds, True), f"answered in {took:.3f} s", took, "seconds")
@@ -248,10 +250,14 @@ def kept_state(it: Looked) -> dict[str, Any]:
     """What was kept last time: the fronts, and what was said of the newest backup."""
     if it.state is None or not it.state.exists():
         return {"fronts": {}, "sound": {}}
-    found = json.loads(it.state.read_text())
-    if not isinstance(found, dict) or not {"fronts", "sound"} <= set(found):
-        raise OfficeError(f"{it.state} is not what this command keeps there: take it away")
-    return found
+    try:
+        found = json.loads(it.state.read_text())
+        fronts, sound = found["fronts"], found["sound"]
+        if not isinstance(sound, dict) or not all(isinstance(front, int) for front in fronts.values()):
+            raise TypeError("other values")
+    except (ValueError, LookupError, TypeError, AttributeError) as error:
+        raise OfficeError(f"{it.state} is not what this command keeps there: take it away") from error
+    return {"fronts": fronts, "sound": sound}
 
 
 def known_fronts(it: Looked, kept: dict[str, int]) -> dict[str, int]:
@@ -273,12 +279,17 @@ def known_fronts(it: Looked, kept: dict[str, int]) -> dict[str, int]:
     return found
 
 
-def keep(it: Looked, state: dict[str, Any]) -> None:
-    """Keeps what was seen for next time."""
+def taken_up(into: dict[str, Any], known: dict[str, Any]) -> list[Finding]:
+    """Takes up what is known; nothing is found by it."""
+    into.update(known)
+    return []
+
+
+def keep(it: Looked, state: dict[str, Any]) -> list[Finding]:
+    """Keeps what was seen for next time; nothing is found by it."""
     if it.state is not None:
-        draft = it.state.with_name(f".{it.state.name}.new")
-        draft.write_text(json.dumps(state))
-        draft.replace(it.state)
+        write_text(it.state, json.dumps(state))
+    return []
 
 
 def tried(name: str, look: Callable[[], list[Finding]]) -> list[Finding]:
@@ -290,10 +301,12 @@ def tried(name: str, look: Callable[[], list[Finding]]) -> list[Finding]:
 
 
 def look(it: Looked, limits: Limits) -> list[Finding]:
-    """All that is found; fronts are kept for next time where none was lower."""
-    state = kept_state(it)
-    fronts = known_fronts(it, state["fronts"])
-    found = tried("answer", lambda: list(look_at_answer(it, limits, fronts)))
+    """All that is found; fronts are kept for next time where none was lower, and where what was kept last time could be read."""
+    state: dict[str, Any] = {"fronts": {}, "sound": {}}
+    fronts: dict[str, int] = {}
+    unread = tried("state", lambda: taken_up(state, kept_state(it)))
+    unread = tried("state", lambda: taken_up(fronts, known_fronts(it, state["fronts"]))) or unread
+    found = unread + tried("answer", lambda: list(look_at_answer(it, limits, fronts)))
     if any(it.name == "fronts" and it.state == GOOD for it in found):
         state["fronts"] = fronts
     if it.database is not None:
@@ -308,8 +321,7 @@ def look(it: Looked, limits: Limits) -> list[Finding]:
         found += tried("certificate", lambda: [look_at_certificate(it, limits)])
     if it.standby is not None:
         found += tried("standby", lambda: [look_at_standby(it, limits)])
-    keep(it, state)
-    return found
+    return found if unread else found + tried("state", lambda: keep(it, state))
 
 
 def worst(findings: list[Finding]) -> int:

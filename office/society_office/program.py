@@ -18,6 +18,7 @@ from typing import Any
 
 from society_office.copy import Copy, open_copy
 from society_office.errors import OfficeError
+from society_office.numbering import rank_of
 from society_office.soundness import BROKEN, CURE, need_sound
 
 CHECKOUT = pathlib.Path(__file__).resolve().parent.parent.parent
@@ -70,6 +71,21 @@ class Answer:
             return json.loads(self.body)
         except ValueError:
             return {}
+
+    @property
+    def standing(self) -> tuple[int, set[int]] | None:
+        """The front and the held numbers that it tells of a sender; None where it tells none, as an answer of what is no office."""
+        try:
+            told = [rank_of(it) for it in (self.json["front"], *self.json["held"])]
+        except (LookupError, TypeError):
+            return None
+        known = [it for it in told if it is not None]
+        return (known[0], set(known[1:])) if len(known) == len(told) else None
+
+    @property
+    def error(self) -> str:
+        """Why the office refuses what was sent, in its own word; the empty text where it tells none."""
+        return str(self.json.get("error", "")) if isinstance(self.json, dict) else ""
 
 
 def port_of(parts: urllib.parse.SplitResult) -> int | None:

@@ -8,7 +8,7 @@ from society_office import comparing
 from society_office.asking import Connections, Request
 from society_office.copy import Copy
 from society_office.errors import OfficeError
-from society_office.numbering import Line, path_of, rank_of, segment_of, segment_text
+from society_office.numbering import Line, path_of, segment_of, segment_text
 from society_office.program import Answer
 
 END, FILE, RETURN, ORDER = "end", "file", "return", "order"
@@ -67,8 +67,7 @@ def why(it: Request, answer: Answer) -> str:
     """Why a request was refused."""
     if answer.status == 404:
         return NO_SUCH_PATH
-    error = str(answer.json.get("error", "")) if isinstance(answer.json, dict) else ""
-    return WHY.get((it.kind, error)) or f"status {answer.status}, {answer.body[:80].decode(errors='replace').strip()}"
+    return WHY.get((it.kind, answer.error)) or f"status {answer.status}, {answer.body[:80].decode(errors='replace').strip()}"
 
 
 def ends(copy: Copy) -> Iterator[Request]:
@@ -118,13 +117,10 @@ class Fronts:
             stated.setdefault(sender, {})[segment] = end
         for (sender,) in copy.listed("SELECT DISTINCT sender FROM transmissions ORDER BY sender"):
             answer = office.ask(Request("front", f"senders/{sender}"))
-            try:
-                front, held = answer.json["front"], answer.json["held"]
-            except (LookupError, TypeError) as error:
-                raise OfficeError(f"{office.address} is no office: it answers {answer.status} to senders/{sender}") from error
+            if answer.standing is None:
+                raise OfficeError(f"{office.address} is no office: it answers {answer.status} to senders/{sender}")
             self.ways[sender] = set(Line(sender, 0, 0, stated.get(sender, {}), []).way)
-            self.fronts[sender] = rank_of(front) or 0
-            self.held[sender] = {rank_of(it) or 0 for it in held}
+            self.fronts[sender], self.held[sender] = answer.standing
 
     def has(self, sender: str, number: int) -> bool:
         """Whether it has this number, by its front, or as one that is held."""

@@ -1,11 +1,13 @@
 """Whether the office is well."""
 
+import http.server
 import json
 import os
 import pathlib
 import re
 import shutil
 import subprocess
+import threading
 import time
 
 import pytest
@@ -15,6 +17,7 @@ from society_office import health
 from society_office.health import GOOD, WARNING, WRONG, Limits, Looked
 from society_office.page_sums import changed
 from society_office.program import free_port
+from test_checks import FIRST
 from test_statements import run
 
 HOUR, MONTH = 3_600, 30 * 86_400
@@ -49,6 +52,57 @@ def test_health(copy: pathlib.Path, tmp_path: pathlib.Path, program: str) -> Non
     backup.write_bytes(copy.read_bytes()[:9_000])
     said = run(*words, status=2, out=True)
     assert "no answer from" in said and re.search("WRONG +sound", said)
+
+
+@pytest.mark.parametrize("kept", [b"", b"{", b"\xff", b"[]", b'{"fronts": [], "sound": {}}', b'{"fronts": {"A": "x"}, "sound": {}}'])
+def test_what_was_kept_and_can_not_be_read(copy: pathlib.Path, tmp_path: pathlib.Path, program: str, kept: bytes) -> None:
+    port, state = free_port(), tmp_path / "state.json"
+    state.write_bytes(kept)
+    with running(program, copy, port, "--existing", "--connections", "1"):
+        said = run("health", "--office", f"http://127.0.0.1:{port}", "--seconds", "60", "--state", state, status=2, out=True)
+    assert "state.json is not what this command keeps there: take it away" in said and "good   answer" in said
+    assert state.read_bytes() == kept and list(tmp_path.glob(".state*")) == []
+
+
+def test_a_disk_that_is_full_hides_nothing(tmp_path: pathlib.Path) -> None:
+    # (the folder stands in the way of what is written, as a full disk does)
+    (tmp_path / ".state.json.new").mkdir()
+    words = ["health", "--office", "http://127.0.0.1:1", "--disk", tmp_path, "--state", tmp_path / "state.json", "--metrics"]
+    said = run(*words, "--free", "0", status=2, out=True)
+    assert 'society_state{of="disk"} 0\n' in said and 'society_state{of="state"} 2\n' in said
+
+
+class Other(http.server.BaseHTTPRequestHandler):
+    """Another program than an office, which answers each question alike."""
+
+    said = b""
+
+    def do_GET(self) -> None:
+        """The answer."""
+        self.send_response(200)
+        self.send_header("Content-Length", str(len(self.said)))
+        self.end_headers()
+        self.wfile.write(self.said)
+
+    do_PUT = do_GET
+
+    def log_message(self, *_: object) -> None:
+        """Nothing."""
+
+
+@pytest.mark.parametrize("said", [b"[]", b"5", b"null", b"<html>", b'{"front":"x","held":[]}', b'{"front":[],"held":[]}', b'{"front":1}'])
+def test_another_program_that_answers(copy: pathlib.Path, tmp_path: pathlib.Path, monkeypatch: pytest.MonkeyPatch, said: bytes) -> None:
+    monkeypatch.setattr(Other, "said", said)
+    (tmp_path / "it.cwr").write_bytes(FIRST)
+    (tmp_path / "it.csv").write_text("isrc,plays,seconds\n")
+    with http.server.ThreadingHTTPServer(("127.0.0.1", 0), Other) as server:
+        threading.Thread(target=server.serve_forever, daemon=True).start()
+        address = f"http://127.0.0.1:{server.server_port}"
+        assert "and with no front: it is no office" in run("health", "--office", address, status=2, out=True)
+        assert "tells no front, so it is no office" in run("check", tmp_path / "it.cwr", "--office", address, status=1)
+        assert "is no office" in run("resend", copy, "--to", address, "--since-fronts", status=1)
+        run("check", tmp_path / "it.csv", "--office", address)
+        server.shutdown()
 
 
 @pytest.mark.parametrize("free, state", [(11, GOOD), (10, GOOD), (9, WARNING), (5, WARNING), (4, WRONG)])
