@@ -101,7 +101,7 @@ class Connections:
         try:
             while some := list(itertools.islice(coming, AT_HAND * self.count)):
                 yield from zip(some, map(self.ask, some) if self.count == 1 else threads.map(self.ask, some))
-        except (Exception, KeyboardInterrupt):
+        except (Exception, KeyboardInterrupt, SystemExit):
             self.stop()
             raise
         finally:

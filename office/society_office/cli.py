@@ -12,7 +12,8 @@ from typing import Any
 
 import click
 
-from society_office import __version__, account_commands, checking, health, money_commands, parties, standby_commands, statement_output, why
+from society_office import __version__, account_commands, checking, health, money_commands, parties, signals, standby_commands
+from society_office import statement_output, why
 from society_office.command_words import COPY_HELP, PATH, POOLS_HELP, PROGRAM_HELP, VOID_HELP, WRONG, fail, noted, void_list
 from society_office.errors import OfficeError
 from society_office.pages import write_text
@@ -37,7 +38,8 @@ class Commands(click.Group):
         prepare_streams()
         try:
             try:
-                return super().main(*words, **extra)
+                with signals.heeded():
+                    return super().main(*words, **extra)
             finally:
                 # (what can't be written is told here, and not by Python when it ends)
                 sys.stdout.flush()

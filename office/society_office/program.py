@@ -16,6 +16,7 @@ import urllib.parse
 from collections.abc import Callable, Iterator
 from typing import Any
 
+from society_office import signals
 from society_office.copy import Copy, open_copy
 from society_office.errors import OfficeError
 from society_office.numbering import rank_of
@@ -182,17 +183,20 @@ def trial_office(program: str, words: list[str], database: pathlib.Path | None =
             str(MANY),
         ]
         with (pathlib.Path(folder) / "errors").open("wb+") as errors:
-            process = subprocess.Popen([program, "serve", *options, *words], stdout=subprocess.PIPE, stderr=errors)
+            process = None
             try:
+                with signals.put_off():
+                    process = subprocess.Popen([program, "serve", *options, *words], stdout=subprocess.PIPE, stderr=errors)
                 if process.stdout is None or process.stdout.readline() != b"listening\n":
                     process.wait()
                     errors.seek(0)
                     raise OfficeError(f"the program did not start over the copy: {errors.read().decode(errors='replace').strip()}")
                 yield Trial(Office(f"http://127.0.0.1:{port}"), place, process)
             finally:
-                process.kill()
-                process.wait()
-                if process.stdout:
+                if process is not None:
+                    process.kill()
+                    process.wait()
+                if process is not None and process.stdout:
                     process.stdout.close()
 
 

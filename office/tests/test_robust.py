@@ -2,14 +2,17 @@
 
 import os
 import pathlib
+import signal
 import subprocess
 import sys
+import time
 
 import office_value
 import pytest
 import quarter
 from conftest import ROOT, made, running
 from office_value import File, Step
+from society_office import signals
 from society_office.copy import open_copy
 from society_office.errors import OfficeError
 from society_office.page_sums import changed
@@ -45,6 +48,33 @@ def test_output_that_goes_nowhere(copy: pathlib.Path, script: str, said: str) ->
 def test_letters_that_the_locale_has_not(copy: pathlib.Path) -> None:
     done = shell(f"$it parties {copy}", LC_ALL="C", PYTHONCOERCECLOCALE="0", PYTHONUTF8="0")
     assert done.returncode == 0 and r"\xd6D\xd6N \xc4RGER" in done.stdout
+
+
+@pytest.mark.parametrize("number", [signal.SIGTERM, signal.SIGHUP, signal.SIGINT])
+def test_a_signal_leaves_no_throw_away_office(copy: pathlib.Path, tmp_path: pathlib.Path, number: int) -> None:
+    begun, room, slow = tmp_path / "begun", tmp_path / "room", tmp_path / "slow"
+    room.mkdir()
+    slow.write_text(f"#!/bin/sh\necho $$ > {begun}.new && mv {begun}.new {begun}\nexec sleep 600\n")
+    slow.chmod(0o755)
+    words = [*COMMAND, "rebuild", str(copy), "--program", str(slow)]
+    with subprocess.Popen(words, env={**os.environ, "TMPDIR": str(room)}, stderr=subprocess.PIPE) as process:
+        until = time.monotonic() + 60
+        while not begun.exists() and time.monotonic() < until:
+            time.sleep(0.01)
+        process.send_signal(number)
+        # (Ctrl-C is click's, which says so and ends with status 1)
+        assert process.wait(60) == (1 if number == signal.SIGINT else -number)
+    assert list(room.iterdir()) == []
+    with pytest.raises(ProcessLookupError):
+        os.kill(int(begun.read_text()), 0)
+
+
+def test_a_signal_is_put_off() -> None:
+    done = []
+    with pytest.raises(KeyboardInterrupt), signals.put_off():
+        signal.raise_signal(signal.SIGINT)
+        done.append("what was begun")
+    assert done and signal.getsignal(signal.SIGINT) == signal.default_int_handler
 
 
 # What is done to a copy by hand, and what is said of it.
