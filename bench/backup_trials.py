@@ -52,8 +52,10 @@ exec {1} "$@"
 # A copying that waits until a file is gone.
 SLOW_CP = """#!/bin/bash
 here=$(dirname "$0")
+# (cp has the file open, and nothing else has)
+[ ! -f "$1" ] || exec 5< "$1"
 touch "$here/copying"
-while [ -e "$here/hold" ]; do sleep 0.05; done
+while [ -e "$here/hold" ]; do sleep 0.05 5<&-; done
 exec /bin/cp "$@"
 """
 ENDLESS_DF = "#!/bin/sh\necho Avail\necho 999999999999\n"

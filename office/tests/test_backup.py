@@ -1,5 +1,6 @@
 """A copy for a group, which is placed where its members may read it."""
 
+import contextlib
 import grp
 import os
 import pathlib
@@ -7,10 +8,12 @@ import shutil
 import subprocess
 import sys
 import tempfile
+import time
 from collections.abc import Iterator
 
 import pytest
-from conftest import ROOT
+from conftest import ROOT, running
+from society_office.program import free_port
 
 BACKUP = ROOT / "debian/bin/society-backup"
 NOBODY = 65_534
@@ -27,6 +30,15 @@ def open_folder() -> Iterator[pathlib.Path]:
 def backed_up(database: pathlib.Path, folder: pathlib.Path, program: str, *words: str) -> subprocess.CompletedProcess[str]:
     command = [BACKUP, "--db", database, "--to", folder / "backups", "--program", program, *words]
     return subprocess.run(command, capture_output=True, text=True, check=False)
+
+
+# In the place of `cp`: it has the file open, as that has, until it may go on.
+HELD_CP = """#!/bin/bash
+exec 5< "$1"
+touch "$(dirname "$0")/copying"
+while [ ! -e "$(dirname "$0")/go-on" ]; do sleep 0.05 5<&-; done
+exec /bin/cp "$@"
+"""
 
 
 def own_group() -> str:
@@ -61,3 +73,25 @@ def test_no_copy_for_a_group_that_is_none(copy: pathlib.Path, tmp_path: pathlib.
     (tmp_path / "file").touch()
     done = backed_up(copy, tmp_path, program, "--group", own_group(), "--place", str(tmp_path / "file"))
     assert done.returncode == 1 and "is there, but it could not be put into" in done.stderr.splitlines()[-1]
+
+
+@pytest.mark.parametrize("is_running", [True, False])
+def test_two_backups_of_one_office_at_once(copy: pathlib.Path, tmp_path: pathlib.Path, program: str, is_running: bool) -> None:
+    tools, both = tmp_path / "tools", [tmp_path / "one", tmp_path / "other"]
+    tools.mkdir()
+    (tools / "cp").write_text(HELD_CP)
+    (tools / "cp").chmod(0o755)
+    office = running(program, copy, free_port(), "--existing", "--connections", "1") if is_running else contextlib.nullcontext()
+    with office:
+        started = []
+        for folder, path in zip(both, (f"{tools}:{os.environ['PATH']}", os.environ["PATH"])):
+            words = [BACKUP, "--db", copy, "--to", folder, "--program", program]
+            started.append(subprocess.Popen(words, env={**os.environ, "PATH": path}, stdout=subprocess.DEVNULL, stderr=subprocess.PIPE))
+            until = time.monotonic() + 60
+            while not ((tools / "copying").exists() and list(folder.glob(".unfinished.*"))) and time.monotonic() < until:
+                time.sleep(0.05)
+        # (the second one looks for the office now)
+        time.sleep(0.5)
+        (tools / "go-on").touch()
+        assert [(it.communicate(timeout=120)[1], it.returncode) for it in started] == [(b"", 0), (b"", 0)]
+    assert [len(list(it.glob("office-*.db"))) for it in both] == [1, 1]
