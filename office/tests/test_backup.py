@@ -95,3 +95,35 @@ def test_two_backups_of_one_office_at_once(copy: pathlib.Path, tmp_path: pathlib
         (tools / "go-on").touch()
         assert [(it.communicate(timeout=120)[1], it.returncode) for it in started] == [(b"", 0), (b"", 0)]
     assert [len(list(it.glob("office-*.db"))) for it in both] == [1, 1]
+
+
+def test_a_clock_that_has_gone_back(copy: pathlib.Path, tmp_path: pathlib.Path, program: str) -> None:
+    folder = tmp_path / "backups"
+    folder.mkdir()
+    for day in range(1, 5):
+        later = folder / f"office-2099-01-0{day}-023000.db"
+        later.touch()
+        os.utime(later, (time.time() + day * 86_400,) * 2)
+    for words, kept in ((["--days", "1"], 5), (["--keep", "2"], 2), (["--keep", "1"], 1)):
+        before = set(folder.glob("*.db"))
+        done = backed_up(copy, tmp_path, program, *words)
+        assert (done.returncode, done.stderr) == (0, "") and f"; {kept} kept" in done.stdout
+        assert len(list(folder.glob("*.db"))) == kept and set(folder.glob("*.db")) - before
+
+
+def test_two_copies_of_one_time_by_the_clock(copy: pathlib.Path, tmp_path: pathlib.Path, program: str) -> None:
+    tools = tmp_path / "tools"
+    tools.mkdir()
+    # (the first two times are one, as where the clock is set back by an hour)
+    (tools / "date").write_text(
+        """#!/bin/bash
+[[ $1 = *H%M%S ]] || exec /bin/date "$@"
+echo x >> "$(dirname "$0")/asked"
+[ "$(wc -l < "$(dirname "$0")/asked")" -le 2 ] && echo 2026-10-25-023000 || echo 2026-10-25-023001
+"""
+    )
+    (tools / "date").chmod(0o755)
+    words = [BACKUP, "--db", copy, "--to", tmp_path / "backups", "--program", program]
+    for _ in range(2):
+        subprocess.run(words, env={**os.environ, "PATH": f"{tools}:{os.environ['PATH']}"}, check=True, stdout=subprocess.DEVNULL)
+    assert {it.name for it in (tmp_path / "backups").glob("*.db")} == {f"office-2026-10-25-02300{it}.db" for it in (0, 1)}
