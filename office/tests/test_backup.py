@@ -15,7 +15,7 @@ import pytest
 from conftest import ROOT, running
 from society_office.program import free_port
 
-BACKUP = ROOT / "debian/bin/society-backup"
+BACKUP, RESTORE = ROOT / "debian/bin/society-backup", ROOT / "debian/bin/society-restore"
 NOBODY = 65_534
 
 
@@ -127,3 +127,11 @@ echo x >> "$(dirname "$0")/asked"
     for _ in range(2):
         subprocess.run(words, env={**os.environ, "PATH": f"{tools}:{os.environ['PATH']}"}, check=True, stdout=subprocess.DEVNULL)
     assert {it.name for it in (tmp_path / "backups").glob("*.db")} == {f"office-2026-10-25-02300{it}.db" for it in (0, 1)}
+
+
+@pytest.mark.parametrize("front", ["02", "00", "0000003", "26-1", "-1", ""])
+def test_a_front_that_no_office_tells_is_refused_first(copy: pathlib.Path, tmp_path: pathlib.Path, front: str) -> None:
+    # (nothing is stopped, and nothing put in place, which the office would then be told to be wrong)
+    words = [RESTORE, "--from", copy, "--db", tmp_path / "office.db", "--sender", "PB000000012", "--front", front, "--service", "no-such"]
+    done = subprocess.run(words, capture_output=True, text=True, check=False)
+    assert done.returncode == 2 and done.stderr.startswith("usage: society-restore --from") and not (tmp_path / "office.db").exists()
