@@ -2,6 +2,7 @@
 
 import contextlib
 import datetime
+import fcntl
 import functools
 import os
 import pathlib
@@ -116,6 +117,23 @@ def write_bytes(target: pathlib.Path, content: bytes) -> None:
     """Writes a file in one step, so that it is the old one or the new one; an OfficeError where it can't be written."""
     with drafted(target) as place:
         place.write_bytes(content)
+
+
+@contextlib.contextmanager
+def locked(folder: pathlib.Path) -> Iterator[None]:
+    """Waits until no other command writes into a folder, and lets none while the `with` lasts; an OfficeError where it can't be there."""
+    try:
+        folder.parent.mkdir(parents=True, exist_ok=True)
+        handle = os.open(folder.parent, os.O_RDONLY)
+    except OSError as error:
+        raise OfficeError(f"{folder} could not be written: {error.strerror}") from error
+    try:
+        # (some disks of a network have no such lock)
+        with contextlib.suppress(OSError):
+            fcntl.flock(handle, fcntl.LOCK_EX)
+        yield
+    finally:
+        os.close(handle)
 
 
 @contextlib.contextmanager

@@ -276,5 +276,5 @@ def as_csv(header: list[str], rows: Iterable[Sequence[object]]) -> str:
 
 def write_site(copy: Copy, into: pathlib.Path, void: Sequence[Entry], pool_names: PoolNames, progress: Callable[[str], None]) -> int:
     """Writes all pages into a folder, in the place of all that were there; answers how many files it wrote."""
-    with pages.new_folder(into, lambda name: PAGE.fullmatch(name) is not None) as folder:
+    with pages.locked(into.resolve()), pages.new_folder(into, lambda name: PAGE.fullmatch(name) is not None) as folder:
         return pages.write_all(folder, Site(copy, void, pool_names, progress).files())

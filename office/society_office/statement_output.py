@@ -147,7 +147,7 @@ def write_each(copy: Copy, names: PoolNames, since: int, into: pathlib.Path, pdf
     statements = Statements(copy)
     accounts = names_of(parties(copy))
     count = differ = 0
-    with counting("statements", copy.row("SELECT count(*) FROM balances")[0]) as advance:
+    with pages.locked(into.resolve()), counting("statements", copy.row("SELECT count(*) FROM balances")[0]) as advance:
         for found in statements.all(since, accounts):
             pages.write_all(into, files_of(found, names, copy.taken))
             if pdf:

@@ -12,7 +12,7 @@ import pytest
 import quarter
 from conftest import ROOT, made, running
 from office_value import File, Step
-from society_office import signals
+from society_office import pages, signals
 from society_office.copy import open_copy
 from society_office.errors import OfficeError
 from society_office.page_sums import changed
@@ -132,6 +132,20 @@ def test_pages_are_replaced_whole_or_not_at_all(copy: pathlib.Path, tmp_path: pa
     (folder / "letter.txt").write_text("no page")
     assert "letter.txt is no page" in run("site", copy, "--into", folder, status=1)
     assert (folder / "letter.txt").exists()
+
+
+@pytest.mark.parametrize("words", [["site"], ["statement", "--all"]])
+def test_two_commands_that_write_one_folder(copy: pathlib.Path, tmp_path: pathlib.Path, words: list[str]) -> None:
+    alone, both = tmp_path / "alone", tmp_path / "both"
+    run(*words, copy, "--into", alone / "it")
+    with pages.locked(both / "it"):
+        command = [*COMMAND, *words, str(copy), "--into", str(both / "it")]
+        started = [subprocess.Popen(command, stdout=subprocess.DEVNULL) for _ in range(2)]
+        time.sleep(5)
+        assert [it.poll() for it in started] == [None, None] and list(both.iterdir()) == []
+    assert [it.wait(60) for it in started] == [0, 0]
+    made = [sorted(it.relative_to(folder) for it in folder.rglob("*")) for folder in (alone, both)]
+    assert made[0] == made[1] and len(made[0]) > 8
 
 
 @pytest.mark.parametrize("address", ["ftp://x", "http://", "http://x:99999", "http://x:y", "http://x/?a"])
