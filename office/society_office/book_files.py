@@ -9,7 +9,7 @@ import time
 from collections.abc import Callable, Iterator
 
 from society_office import book_log, page_sums
-from society_office.copy import is_in_use
+from society_office.copy import beside, is_in_use
 from society_office.errors import OfficeError
 
 PROCESSES = pathlib.Path("/proc")
@@ -26,7 +26,7 @@ USAGE = """usage: python3 -m society_office.book_files check DATABASE
 
 def log_of(database: pathlib.Path) -> pathlib.Path:
     """The log's path."""
-    return database.with_name(database.name + "-wal")
+    return beside(database, "-wal")
 
 
 def named_database(process: pathlib.Path) -> pathlib.Path | None:

@@ -15,6 +15,7 @@ import click
 from society_office import __version__, account_commands, checking, health, money_commands, parties, signals, standby_commands
 from society_office import statement_output, why
 from society_office.command_words import COPY_HELP, PATH, POOLS_HELP, PROGRAM_HELP, VOID_HELP, WRONG, fail, noted, void_list
+from society_office.copy import beside
 from society_office.errors import OfficeError
 from society_office.pages import write_text
 from society_office.pool_names import pool_names
@@ -258,7 +259,7 @@ def tell_health(**given: Any) -> None:
     password = os.environ.get("SOCIETY_PASSWORD", "")
     names = ("address", "user", "authority", "database", "disk", "backups", "state", "program", "certificate", "standby")
     if given["database"] is not None and given["disk"] is None:
-        given["disk"] = given["database"].parent
+        given["disk"] = beside(given["database"], "").parent
     looked = health.Looked(password=password, **{it: given[it] for it in names})
     limits = ("seconds", "memory", "free", "hours", "days", "minutes")
     found = health.look(looked, health.Limits(*(given[it] for it in limits)))

@@ -156,6 +156,12 @@ def is_in_use(path: pathlib.Path) -> bool:
     return bool(found[0] != fcntl.F_UNLCK)
 
 
+def beside(path: pathlib.Path, ending: str) -> pathlib.Path:
+    """What SQLite has beside a file, as its log (`-wal`): where a link leads, and not beside the link."""
+    place = pathlib.Path(os.path.realpath(path)) if path.is_symlink() else path
+    return place.with_name(place.name + ending)
+
+
 def has_frames(log: pathlib.Path) -> bool:
     """Whether a write-ahead log has a page that counts: one whose salts are those of the log's header."""
     if not log.exists():
@@ -195,7 +201,7 @@ def refuse_another(path: pathlib.Path) -> None:
         raise OfficeError(f"{path} may not be read by this user") from error
     if start and start != book_log.DATABASE:
         raise OfficeError(f"{path} is no SQLite database")
-    journal = path.with_name(path.name + "-journal")
+    journal = beside(path, "-journal")
     if journal.exists() and journal.stat().st_size:
         raise OfficeError(f"{journal} stands beside {path}: a change of it was not ended. Copy it again")
 
@@ -242,7 +248,7 @@ def open_copy(name: str | os.PathLike[str]) -> Iterator[Copy]:
     """A copy, open while the `with` lasts; an OfficeError where it can't be read as an office's file."""
     path = pathlib.Path(name)
     refuse_another(path)
-    log = path.with_name(path.name + "-wal")
+    log = beside(path, "-wal")
     if has_frames(log):
         with open_pair(path, log) as pair:
             yield pair

@@ -65,6 +65,19 @@ def test_files_that_the_office_writes(served: Served) -> None:
     assert f"does not write {database}-wal" in findings(words)["file"][1]
 
 
+def test_a_link_to_the_file(served: Served, tmp_path: pathlib.Path) -> None:
+    database, words = served
+    link = tmp_path / "elsewhere/link.db"
+    link.parent.mkdir()
+    link.symlink_to(database)
+    linked = [str(link) if it == str(database) else it for it in words]
+    assert findings(linked)["file"][0] == "good" and f"the disk of {database.parent} " in findings(linked)["disk"][1]
+    assert health.memory_needed(health.Looked("", database=link)) == health.memory_needed(health.Looked("", database=database))
+    book_files.log_of(database).rename(tmp_path / "away")
+    shutil.copyfile(tmp_path / "away", book_files.log_of(database))
+    assert f"does not write {database}-wal" in findings(linked)["file"][1]
+
+
 def test_memory_of_a_start(served: Served, monkeypatch: pytest.MonkeyPatch, tmp_path: pathlib.Path) -> None:
     database, words = served
     needed = health.memory_needed(health.Looked("", database=database))

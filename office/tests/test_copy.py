@@ -92,6 +92,10 @@ def test_a_log_of_the_copy_is_read(copy: pathlib.Path, tmp_path: pathlib.Path) -
         assert opened.row("SELECT count(*) FROM returns WHERE reporter = 'TV9'") == (1,)
         assert "were read as one" in opened.note
     assert {it.name for it in folder.iterdir()} == {"pair.db", "pair.db-wal"}
+    (tmp_path / "link.db").symlink_to("pair/pair.db")
+    assert run("returned", tmp_path / "link.db", "TV9/1") == "\0"
+    (folder / "pair.db-journal").write_text("of a change that was not ended")
+    assert "pair.db-journal stands beside" in refused(tmp_path / "link.db")
 
 
 def test_a_log_of_another_file_is_refused(copy: pathlib.Path, tmp_path: pathlib.Path) -> None:
