@@ -33,7 +33,8 @@ GROUPS = pathlib.Path("/sys/fs/cgroup")
 # Where the office's unit stands, and then what changes it.
 UNITS = [pathlib.Path(it) for it in ("/lib/systemd/system", "/etc/systemd/system", "/run/systemd/system.control")]
 UNIT = "society.service"
-MEMORY_MAX = re.compile(r"^MemoryMax=(\d+)([KMGT]?)$", re.MULTILINE)
+MEMORY_MAX = re.compile(r"^MemoryMax=(.*)$", re.MULTILINE)
+AMOUNT = re.compile(r"(\d+(?:\.\d+)?)([KMGT%]?)", re.ASCII)
 # A sender of whom nothing has come, asked where none is known.
 NOBODY = "PB999999999"
 
@@ -162,14 +163,24 @@ def bound_of_unit(database: pathlib.Path) -> int | None:
         return None
     for folder in UNITS:
         text += "".join("\n" + it.read_text() for it in sorted(folder.glob(f"{UNIT}.d/*.conf")))
-    found = MEMORY_MAX.findall(text)
-    return int(found[-1][0]) << 10 * " KMGT".index(found[-1][1] or " ") if found else None
+    found = [it.strip() for it in MEMORY_MAX.findall(text)]
+    amount = AMOUNT.fullmatch(found[-1]) if found else None
+    if amount is None:
+        # (nothing, or `infinity`)
+        return None
+    whole = machine_memory() if amount[2] == "%" else 100 << 10 * " KMGT".index(amount[2] or " ")
+    return int(float(amount[1]) * whole / 100)
+
+
+def machine_memory() -> int:
+    """The bytes of memory that the machine has."""
+    return os.sysconf("SC_PHYS_PAGES") * os.sysconf("SC_PAGE_SIZE")
 
 
 def memory_allowed(it: Looked) -> tuple[int, str]:
     """The bytes of memory that the office may take, and what bounds them: the unit's MemoryMax, else the machine's memory."""
     assert it.database is not None
-    allowed, why = os.sysconf("SC_PHYS_PAGES") * os.sysconf("SC_PAGE_SIZE"), "this machine has"
+    allowed, why = machine_memory(), "this machine has"
     if (most := bound_of_unit(it.database)) is not None and most < allowed:
         allowed, why = most, "the unit's MemoryMax is"
     for process in offices(it.database):

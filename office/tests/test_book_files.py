@@ -107,6 +107,11 @@ def test_memory_by_the_unit(monkeypatch: pytest.MonkeyPatch, tmp_path: pathlib.P
     assert health.bound_of_unit(database) == 4 << 30 and health.bound_of_unit(tmp_path / "other.db") is None
     (tmp_path / "etc/society.service.d/override.conf").write_text("[Service]\nMemoryMax=300M\n")
     assert health.memory_allowed(health.Looked("", database=database)) == (300 << 20, "the unit's MemoryMax is")
+    whole = health.machine_memory()
+    # As systemd reads it: a fraction, a part of the machine's memory, no limit, and the one from before taken back.
+    for text, bound in ("1.5G", 3 << 29), ("50%", whole // 2), ("infinity", None), ("", None), ("4096 ", 4_096):
+        (tmp_path / "etc/society.service.d/override.conf").write_text(f"[Service]\nMemoryMax={text}\n")
+        assert health.bound_of_unit(database) == bound, text
 
 
 def test_senders_that_are_gone(copy: pathlib.Path, tmp_path: pathlib.Path) -> None:
