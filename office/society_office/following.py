@@ -60,8 +60,13 @@ class Following:
 def kept(path: pathlib.Path) -> Following:
     """What was kept; an OfficeError where there is nothing, or something else."""
     try:
-        return Following(**json.loads(path.read_text()))
-    except (OSError, ValueError, TypeError) as error:
+        found = Following(**json.loads(path.read_text()))
+        if not isinstance(found.has, dict) or not isinstance(found.refused, list) or found.since is None:
+            raise TypeError("other values")
+        # (what is no time can't be told as one)
+        time.localtime(found.since)
+        return found
+    except (OSError, ValueError, TypeError, OverflowError) as error:
         raise OfficeError(f"{path} is not what `resend --state` keeps: {error}") from error
 
 

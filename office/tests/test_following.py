@@ -153,7 +153,8 @@ def test_what_is_kept_is_of_one_standby(tmp_path: pathlib.Path) -> None:
     assert (following.kept(tmp_path / "before.json").since, following.kept(state).since) == (1.0, 2.0)
     with pytest.raises(OfficeError, match="is not what `resend --state` keeps"):
         following.kept(tmp_path / "none.json")
-    for text in ("none", "[]", json.dumps({"fronts": {}})):
+    others = [{"fronts": {}}, *({"standby": "http://a", "since": it} for it in ("x", 1e30, None))]
+    for text in ("none", "[]", *map(json.dumps, [*others, {"standby": "http://a", "since": 1.0, "has": [5]}])):
         state.write_text(text)
         with pytest.raises(OfficeError, match="is not what `resend --state` keeps"):
             following.kept(state)
