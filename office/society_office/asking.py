@@ -126,6 +126,8 @@ def access_by_netrc(address: str, file: pathlib.Path | None) -> dict[str, str]:
         found = netrc.netrc(str(file) if file else None).authenticators(host)
     except netrc.NetrcParseError as error:
         raise OfficeError(f"{error.filename}, line {error.lineno}: {error.msg}") from error
+    except UnicodeDecodeError as error:
+        raise OfficeError(f"{file or '~/.netrc'}: the byte 0x{error.object[error.start]:02X} is no UTF-8: save it as UTF-8") from error
     if found is None:
         raise OfficeError(f"{file or '~/.netrc'} has no entry for {host}")
     return {"user": found[0], "password": found[2] or ""}

@@ -307,6 +307,8 @@ def test_what_ends_a_round(busy: str, copy: pathlib.Path, tmp_path: pathlib.Path
         access_by_netrc(busy, tmp_path / "netrc")
     (tmp_path / "netrc").write_text("nothing of this kind\n")
     assert "netrc, line 1: " in run("resend", copy, "--to", busy, "--netrc-file", tmp_path / "netrc", status=1)
+    (tmp_path / "netrc").write_bytes(b"machine 127.0.0.1 login office password \xff\n")
+    assert "0xFF is no UTF-8" in run("resend", copy, "--to", busy, "--netrc-file", tmp_path / "netrc", status=1)
     assert "is no address" in run("resend", copy, "--to", "office", status=1)
 
 
