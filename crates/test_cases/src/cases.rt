@@ -3,8 +3,8 @@ use crate::answers::answer;
 use crate::body::change;
 use crate::told::Told;
 use std::alloc::Global;
-use std::{fs, io};
-use test_sheets::{Line, Sheet, bytes_of, first_word};
+use std::io;
+use test_sheets::{Line, Sheet, bytes_of, file, first_word};
 
 /// What has come of a file of cases, and the body that its lines have made.
 #[derive(Drop)]
@@ -36,8 +36,7 @@ impl Cases {
     /// Puts a file behind the body, or changes the body in another way; whether there is such a way.
     fn build(&mut self, rt: &HostRuntime, word: &str, rest: &str) -> io::Result<bool> {
         if word == "take" {
-            let file = fs::read(rt, rest)?;
-            self.body.extend_from_slice(&file)?;
+            self.body.extend_from_slice(&file(rt, rest)?)?;
             return Ok(true);
         }
         Ok(change(rt.alloc(), &mut self.body, word, rest)?)

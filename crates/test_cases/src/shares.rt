@@ -25,10 +25,10 @@ pub fn tell_shares(alloc: Global, told: &mut Told, word: &str, rest: &str, body:
 
 /// Whether a line is a header or a trailer, and so no record of a transaction.
 fn is_frame(line: &[u8]) -> bool {
-    line.starts_with(b"HDR")
-        || line.starts_with(b"GRH")
-        || line.starts_with(b"GRT")
-        || line.starts_with(b"TRL")
+    matches!(
+        line,
+        [b'H', b'D', b'R', ..] | [b'G', b'R', b'H' | b'T', ..] | [b'T', b'R', b'L', ..]
+    )
 }
 
 /// The registration whose records are the lines of a body, its headers and trailers aside.

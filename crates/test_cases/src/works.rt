@@ -3,9 +3,8 @@ use crate::told::Told;
 use cwr_files::read_transmission;
 use cwr_records::TransactionKind;
 use std::alloc::Global;
-use std::fs;
 use test_bodies::{office, sender};
-use test_sheets::first_word;
+use test_sheets::{file, first_word};
 use work_ids::{TransmissionNumber, WorkNumber};
 use works_core::{Judged, LineEnd, SenderLine, Verdict, WorkVersion, isrcs, judge_all};
 
@@ -31,7 +30,7 @@ fn send(rt: &HostRuntime, line: &mut SenderLine, row: &str) -> Option<()> {
         return None;
     }
     let sender = sender().ok()?;
-    let body = fs::read(rt, name).ok()?;
+    let body = file(rt, name).ok()?;
     let transmission = read_transmission(rt.alloc(), &body, &sender).ok()?;
     line.apply(number, &transmission).ok()
 }

@@ -6,9 +6,8 @@ use society_core::{
     run,
 };
 use std::alloc::{AllocError, Global};
-use std::fs;
 use test_bodies::{number, sender, work};
-use test_sheets::first_word;
+use test_sheets::{file, first_word};
 use work_ids::{SenderKey, TransmissionNumber};
 
 /// The number of a transmission that a word spells.
@@ -61,8 +60,8 @@ pub fn tell_put(
 fn puts_of(rt: &HostRuntime, text: &[u8]) -> Option<Vec<(TransmissionNumber, Vec<u8>)>> {
     let mut puts = Vec::new(rt.alloc());
     for line in str::from_utf8(text).ok()?.lines() {
-        let (number, file) = first_word(line);
-        let body = fs::read(rt, file).ok()?;
+        let (number, name) = first_word(line);
+        let body = file(rt, name).ok()?;
         puts.push((number_of(number)?, body)).ok()?;
     }
     Some(puts)
@@ -126,7 +125,7 @@ fn told_ack(ack: &[u8], wanted: &[u8]) -> &'static str {
 }
 
 /// Tells the sender's front, how many of its transmissions wait, and whether the first one's acknowledgement is a file.
-pub fn tell_book(rt: &HostRuntime, desk: &mut Desk<PlainStore>, file: &str) -> Option<String> {
+pub fn tell_book(rt: &HostRuntime, desk: &mut Desk<PlainStore>, name: &str) -> Option<String> {
     let alloc = rt.alloc();
     let sender = sender().ok()?;
     let Ok(Showing::Sender(status)) = desk.look_up(alloc, &Inquiry::Sender { sender }) else {
@@ -138,7 +137,7 @@ pub fn tell_book(rt: &HostRuntime, desk: &mut Desk<PlainStore>, file: &str) -> O
         Ok(Showing::Acknowledgement(text)) => text,
         _other => Vec::new(alloc),
     };
-    let ack = told_ack(&ack, &fs::read(rt, file).ok()?);
+    let ack = told_ack(&ack, &file(rt, name).ok()?);
     format!(in alloc; "front {front}, {} held, {ack}", held.len()).ok()
 }
 

@@ -5,14 +5,15 @@ use crate::streams::serve_stream;
 use share_rules::Office;
 use society_core::{Desk, PlainStore};
 use std::alloc::Global;
-use std::{fs, io};
+use std::io;
+use test_sheets::file;
 
 /// The stream whose requests and answers the files of a row have.
 fn stream_of(rt: &HostRuntime, name: &str) -> io::Result<Stream> {
     let alloc = rt.alloc();
     Ok(Stream {
-        input: fs::read(rt, format!(in alloc; "rows/{name}.http")?.as_str())?,
-        answers: fs::read(rt, format!(in alloc; "rows/{name}.answers")?.as_str())?,
+        input: file(rt, format!(in alloc; "rows/{name}.http")?.as_str())?,
+        answers: file(rt, format!(in alloc; "rows/{name}.answers")?.as_str())?,
     })
 }
 

@@ -1,7 +1,7 @@
 //! What a connection is sent, and the answers that are wanted.
 use std::alloc::{AllocError, Global};
-use std::{fs, io};
-use test_sheets::{bytes_of, first_word, push_line};
+use std::io;
+use test_sheets::{bytes_of, file, first_word, push_line};
 
 /// The bytes that a connection reads, and those that are wanted of it.
 #[derive(Drop)]
@@ -15,7 +15,7 @@ fn bytes_or_file(rt: &HostRuntime, text: &str) -> io::Result<Vec<u8>> {
     if text.is_empty() || text.starts_with('"') {
         return Ok(bytes_of(rt.alloc(), text)?);
     }
-    fs::read(rt, text)
+    file(rt, text)
 }
 
 impl Stream {

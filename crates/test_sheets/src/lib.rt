@@ -6,5 +6,5 @@ mod sheet;
 mod words;
 
 pub use line::Line;
-pub use sheet::{Sheet, texts};
+pub use sheet::{Sheet, file, text, texts};
 pub use words::{bytes_of, first_word, push_line};

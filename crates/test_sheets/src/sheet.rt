@@ -1,5 +1,6 @@
 //! What has come of a file of cases.
 use std::alloc::{AllocError, Global};
+use std::io::ErrorKind;
 use std::{env, fs, io};
 
 /// What has been read of a file: the group, whether a case of it was asked, and whether all were as wanted; and the name of the case.
@@ -81,7 +82,25 @@ pub fn texts(rt: &HostRuntime) -> io::Result<Vec<String>> {
     let mut texts = Vec::new(alloc);
     for name in names.iter().skip(1) {
         let path = format!(in alloc; "{name}.cases")?;
-        texts.push(fs::read_to_string(rt, path.as_str())?)?;
+        texts.push(text(rt, path.as_str())?)?;
     }
     Ok(texts)
+}
+
+/// The bytes of a file that a case names; the name of one that cannot be read is printed.
+pub fn file(rt: &HostRuntime, name: &str) -> io::Result<Vec<u8>> {
+    // Here alone a file is opened: each program that does so by itself proves once more how one is closed.
+    let read = fs::read(rt, name);
+    if read.is_err() {
+        println!(rt; "{name} cannot be read")?;
+    }
+    read
+}
+
+/// The text of a file; the name of one that cannot be read is printed.
+pub fn text(rt: &HostRuntime, name: &str) -> io::Result<String> {
+    match String::from_utf8(file(rt, name)?) {
+        Ok(text) => Ok(text),
+        Err(_) => Err(ErrorKind::InvalidData.into()),
+    }
 }
