@@ -9,10 +9,10 @@ Run it anywhere in the repository. A value is a number or a text in a file of te
 under cfg(test), and the library of sample bodies; a script of trials/ is one too, and each trial a test. "a" and b"a" are one value, and a
 text of five bytes or more is not listed where it stands within another of AFTER. The rows over bytes count too, also where they stand in
 another folder: each row and each folder of rows is a test by its name, each file is a text, and so is each number in one; a row is listed too
-whose requests or answers are other bytes. So do the files of the programs of cases: each group is a test by its name, and each line, body, word
-and number is a value. A test is not listed as lacking where AFTER has a row of its
-name, in a file or in a table of a test. A value that stands fewer times need not be a case that was dropped, since several tests may share
-one table or one sample: read the list.
+whose requests or answers are other bytes. So do the files of the programs of cases: each group, each course and each stretch of one is a test by
+its name, and each line, body, word and number is a value, as is each line that a program with courses has to print. A test is not listed as lacking
+where AFTER has a row of its name, in a file or in a table of a test. A value that stands fewer times need not be a case that was dropped, since
+several tests may share one table or one sample: read the list.
 """
 import ast
 import collections
@@ -27,7 +27,8 @@ COUNTS_OF_ROWS = {
     "crates/test_rows/stdout": re.compile(r"^(\S+): (\d+) requests, as wanted$", re.M),
     "crates/test_desk/data/rows.cases": re.compile(r"^serve-row (\S+) -> served (\d+), all$", re.M),
 }
-PROGRAMS_OF_CASES = ("test_cases", "test_desk", "test_tables")
+# Older revisions have a program for the stops alone.
+PROGRAMS_OF_CASES = ("test_cases", "test_desk", "test_tables", "test_stops")
 TRIALS = "trials"
 TOKEN = re.compile(
     r"""(?P<comment>//[^\n]*)
@@ -109,6 +110,17 @@ def case_values(text):
         yield from (int(number) for number in re.findall(r"(?<!\w)\d+(?!\w)", line))
 
 
+def courses(text):
+    """The courses of a file, each by its name, and behind each its stretches: what they do, and in which course."""
+    course = ""
+    for line in text.splitlines():
+        if line.startswith("course "):
+            course = line.removeprefix("course ")
+            yield course
+        elif re.match(r"(answers|stops|opens)\b", line):
+            yield f"{line}, in: {course}"
+
+
 def value(token):
     if token["number"]:
         return int(token["number"].replace("_", ""))
@@ -174,18 +186,21 @@ class Cases:
             self.rows[row]["count"] = count
 
     def add_sheets(self, revision, names):
-        """Adds the files of cases, and the files that they take."""
+        """Adds the files of cases and of courses, and the files that they take."""
         for name in names:
             sheet = re.fullmatch(rf"crates/({'|'.join(PROGRAMS_OF_CASES)})/data/(\w+)\.(\w+)", name)
             if not sheet:
                 continue
             crate, word, ending = sheet.groups()
             data = git_bytes("show", f"{revision}:{name}")
-            if ending != "cases":
+            if ending not in ("cases", "courses"):
                 self.values.update([data])
                 continue
             text = data.decode()
             groups, found = re.findall(r"^== (\w+)$", text, re.M), list(case_values(text))
+            if ending == "courses":
+                groups = list(courses(text))
+                found += [line.encode() for line in git("show", f"{revision}:crates/{crate}/stdout").splitlines()]
             self.tests += [(crate, word, group) for group in groups]
             self.values.update(found)
             self.counts[crate].update(tests=len(groups), values=len(found))

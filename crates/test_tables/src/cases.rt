@@ -1,9 +1,10 @@
 //! The cases of a file, each of which is run when its last line has been read.
+use crate::files::{Image, connected, whole};
 use crate::offices::run_case;
 use crate::stores::run_plain;
-use memory_store::MemoryStore;
 use share_rules::Office;
-use sqlite::Connection;
+use sqlite::Files;
+use sqlite_disk::Disk;
 use std::alloc::Global;
 use std::io::ErrorKind;
 use std::{io, mem};
@@ -11,16 +12,31 @@ use test_sheets::{Line, Sheet};
 
 /// What has come of a file of cases; the name and the lines of the case under way.
 #[derive(Drop)]
-pub struct Cases {
+struct Cases {
     office: Office,
     sheet: Sheet,
     name: String,
     lines: String,
 }
 
+/// Runs lines over the databases in two pairs of files.
+fn run_over_files<D: Disk + Drop>(
+    rt: &HostRuntime,
+    sheet: &mut Sheet,
+    office: &Office,
+    files: (Files<D>, Files<D>),
+    lines: &str,
+) -> io::Result<()> {
+    let (here, beside) = files;
+    match (connected(rt.alloc(), here), connected(rt.alloc(), beside)) {
+        (Some(here), Some(beside)) => run_case(rt, sheet, office, (here, beside), lines),
+        _ => Err(ErrorKind::OutOfMemory.into()),
+    }
+}
+
 impl Cases {
     /// Nothing has been read.
-    pub fn new(alloc: Global, office: &Office) -> Cases {
+    fn new(alloc: Global, office: &Office) -> Cases {
         Cases {
             office: *office,
             sheet: Sheet::new(alloc),
@@ -29,15 +45,12 @@ impl Cases {
         }
     }
 
-    /// Runs lines over two databases in memory that have no table.
+    /// Runs lines over two databases that have no table, in files that pass all calls.
     fn run_over_tables(&mut self, rt: &HostRuntime, lines: &str) -> io::Result<()> {
-        // The one function that names the store: over a store by its name each call takes a minute to prove.
-        let alloc = rt.alloc();
-        let here = Connection::over(alloc, MemoryStore::new(alloc)?);
-        let beside = Connection::over(alloc, MemoryStore::new(alloc)?);
-        match (here, beside) {
-            (Ok(here), Ok(beside)) => {
-                run_case(rt, &mut self.sheet, &self.office, (here, beside), lines)
+        let empty = Image::empty(rt.alloc());
+        match (whole(rt.alloc(), &empty), whole(rt.alloc(), &empty)) {
+            (Some(here), Some(beside)) => {
+                run_over_files(rt, &mut self.sheet, &self.office, (here, beside), lines)
             }
             _ => Err(ErrorKind::OutOfMemory.into()),
         }
@@ -72,7 +85,7 @@ impl Cases {
     }
 
     /// Reads a line.
-    pub fn take(&mut self, rt: &HostRuntime, line: &str) -> io::Result<()> {
+    fn take(&mut self, rt: &HostRuntime, line: &str) -> io::Result<()> {
         match Line::of(line) {
             Line::Remark => Ok(()),
             Line::Group(name) => {
@@ -85,8 +98,17 @@ impl Cases {
     }
 
     /// Runs the last case, and tells of the last group.
-    pub fn end(&mut self, rt: &HostRuntime) -> io::Result<()> {
+    fn end(&mut self, rt: &HostRuntime) -> io::Result<()> {
         self.next(rt, "")?;
         self.sheet.end_group(rt)
     }
+}
+
+/// Runs all cases of a text, and tells of its groups.
+pub fn take_all(rt: &HostRuntime, office: &Office, text: &str) -> io::Result<()> {
+    let mut cases = Cases::new(rt.alloc(), office);
+    for line in text.lines() {
+        cases.take(rt, line)?;
+    }
+    cases.end(rt)
 }

@@ -3,9 +3,8 @@ use crate::writes::segment_of;
 use share_rules::Kind;
 use society_core::{Desk, PoolOrder, Refusal, ReturnKey, Store};
 use std::alloc::Global;
-use std::fs;
 use test_bodies::{changed, number};
-use test_sheets::first_word;
+use test_sheets::{file, first_word};
 use work_ids::{PoolNumber, Reporter, ReturnNumber, SegmentEnd, SenderKey, TransmissionNumber};
 
 /// The number of a transmission, by its rank.
@@ -21,8 +20,8 @@ pub fn pool_of(word: &str) -> Option<PoolNumber> {
 /// The bytes of a file, in which those that words name are changed: `9:261=2` puts a 2 at position 261 of line 9.
 pub fn body_of(rt: &HostRuntime, text: &str) -> Option<Vec<u8>> {
     let alloc = rt.alloc();
-    let (file, changes) = first_word(text);
-    let mut body = fs::read(rt, file).ok()?;
+    let (name, changes) = first_word(text);
+    let mut body = file(rt, name).ok()?;
     for change in changes.split_whitespace() {
         let (place, by) = change.split_once('=')?;
         let (line, position) = place.split_once(':')?;

@@ -1,5 +1,5 @@
-//! Files in memory that fail each call after so many.
-use sqlite::{Connection, Files, Options};
+//! Files in memory that fail each call after so many, and connections to them.
+use sqlite::{Connection, FileStore, Files, Options};
 use sqlite_disk::{Crash, Disk, Fuse, Memory};
 use std::alloc::Global;
 
@@ -101,12 +101,20 @@ pub fn synced(alloc: Global, files: Files<Fused>) -> Option<Image> {
 
 // What is done over files is done over any: over files by their name each call takes a minute to prove.
 
-/// Files over which statements were run, which leaves the database file alone.
-fn executed<D: Disk + Drop>(alloc: Global, files: Files<D>, statements: &str) -> Option<Files<D>> {
+/// A connection to the database in files that do not fail.
+pub fn connected<D: Disk + Drop>(
+    alloc: Global,
+    files: Files<D>,
+) -> Option<Connection<FileStore<D>>> {
     if !files.log.may_be_used() || !files.db.may_be_used() {
         return None;
     }
-    let mut conn = Connection::open_files(alloc, files, OPTIONS).ok()?;
+    Connection::open_files(alloc, files, OPTIONS).ok()
+}
+
+/// Files over which statements were run, which leaves the database file alone.
+fn executed<D: Disk + Drop>(alloc: Global, files: Files<D>, statements: &str) -> Option<Files<D>> {
+    let mut conn = connected(alloc, files)?;
     conn.execute_batch(statements).ok()?;
     conn.close_files().ok()
 }

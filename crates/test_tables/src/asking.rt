@@ -1,4 +1,5 @@
 //! Requests to the office over files, and what is answered.
+use crate::database::opened;
 use crate::files::{Fused, OPTIONS};
 use http_desk::{Counted, serve};
 use share_rules::Office;
@@ -58,10 +59,7 @@ fn ask_store<S: Alter + Drop>(
     conn: Connection<S>,
     requests: &[&[u8]],
 ) -> Option<(Option<Answers>, S)> {
-    if !conn.is_autocommit() {
-        return None;
-    }
-    match society_opening::open(alloc, conn, office) {
+    match opened(alloc, conn, office) {
         Ok(tables) => {
             let mut desk = Desk::new(tables);
             let told = answers(alloc, &mut desk, requests)?;
