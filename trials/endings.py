@@ -152,8 +152,9 @@ def a_port_that_is_taken_leaves_the_file(program, folder):
     left = left_by(program, folder, "left.db", CLOSED_AT_A_CUT)
     held = left.read_bytes()
     with socket.create_server(("127.0.0.1", 0)) as taken:
-        words = ["serve", "--db", "left.db", "--port", str(taken.getsockname()[1]), "--connections", "1", *OFFICE]
-        told("a taken port", run(program, folder, words), Ended(b"", b"society: cannot listen\n", 1))
+        port = taken.getsockname()[1]
+        words = ["serve", "--db", "left.db", "--port", str(port), "--connections", "1", *OFFICE]
+        told("a taken port", run(program, folder, words), Ended(b"", f"society: cannot listen at port {port}\n".encode(), 1))
         told("its bytes", left.read_bytes() == held, True)
         change(left, "DELETE FROM versions")
         told("a damaged file", run(program, folder, words), Ended(b"", b"society: database damaged\n", 1))

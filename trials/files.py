@@ -99,7 +99,7 @@ def a_port_that_is_taken(program, folder):
     with socket.create_server(("127.0.0.1", 0)) as taken:
         port = str(taken.getsockname()[1])
         words = ["serve", "--db", "F", "--port", port, "--connections", "1", *OFFICE]
-        told("a port that is taken", run(program, folder, words), Ended(b"", b"society: cannot listen\n", 1))
+        told("a port that is taken", run(program, folder, words), Ended(b"", f"society: cannot listen at port {port}\n".encode(), 1))
 
 
 # The day's requests up to its returns, and those after.

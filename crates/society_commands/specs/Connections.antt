@@ -61,7 +61,7 @@ CannotListen net port = (address : SocketAddrV4) × IsLoopback port address × n
 -- came than were asked for, and then one could not be accepted
 abbrev pub StopsServingStore : {N D R V S W : Type 0} → Network N D R V → (S → State) → S → S → (W → Option (List ℕ)) → Counted W → Counted W → Listening → (Trouble → Type 0) → Type 0
 StopsServingStore net state desk new_desk contents out new_out place Told =
-    (CannotListen net place.port × (new_desk ≡ desk) × (new_out ≡ out) × Told NoListener)
+    (CannotListen net place.port × (new_desk ≡ desk) × (new_out ≡ out) × Told (NoListener place.port))
     ⊎ ((count : ℕ) × (count < place.connections) × ServesStore net state desk new_desk contents out new_out place.port count true × Told NoConnection)
 
 -- a book is that of the tables that older ones of an office were taken over into

@@ -1,5 +1,5 @@
 -- Why the program ends with status 1, and the line that tells so.
-use Rattle.std.specs.Prelude.{ℕ, List, ◌++◌, Option, codes}
+use Rattle.std.specs.Prelude.{ℕ, List, ◌++◌, Option, codes, decimal}
 use Rattle.http_desk.specs.declared.counted.Counted.{Counted}
 use Rattle.desk_connections.specs.Connections.{Prints}
 use Rattle.society_commands.specs.Refusals.{database_fault}
@@ -10,7 +10,7 @@ use Rattle.society_commands.specs.declared.trouble.Trouble.TheVariants.{Database
 -- what a trouble is called on standard error (profile)
 abbrev pub trouble_text : Trouble → List ℕ
 trouble_text (Database fault) = codes "database " ++ database_fault fault
-trouble_text NoListener = codes "cannot listen"
+trouble_text (NoListener port) = codes "cannot listen at port " ++ decimal port
 trouble_text NoConnection = codes "cannot accept"
 trouble_text (Stream fault) = fault_text fault ++ codes " requests"
 

@@ -31,7 +31,7 @@ pub fn serve_store<N: Listen, S: Store, W: Write, E: Write>(
 {
     let address = SocketAddrV4::new(Ipv4Addr::LOCALHOST, place.port);
     let Ok(mut door) = net.listen(address) else {
-        return tell(err, Trouble::NoListener);
+        return tell(err, Trouble::NoListener(place.port));
     };
     print(out, b"listening\n");
     match serve_connections(alloc, desk, &mut door, place.connections, out) {

@@ -1,12 +1,12 @@
 //! Why the program does not do what it was asked to: each has a line on standard error.
-ghost use Rattle.std.specs.Prelude.{◌≡◌, ◌++◌, codes};
+ghost use Rattle.std.specs.Prelude.{◌≡◌, ◌++◌, codes, decimal};
 ghost use Rattle.desk_connections.specs.Connections.{Prints};
 ghost use Rattle.society_commands.specs.Refusals.{database_fault};
 ghost use Rattle.desk_connections.specs.Faults.{fault_text};
 ghost use Rattle.society_commands.specs.Troubles.{Tells, trouble_text};
 
 use crate::replaying::BROKEN_OFF;
-use desk_connections::{print, print_fault};
+use desk_connections::{print, print_fault, print_number};
 use http_desk::{Counted, DeskFault};
 use society_opening::OpenFault;
 use std::io::Write;
@@ -16,8 +16,8 @@ use std::io::Write;
 pub enum Trouble {
     /// The database is not opened as the office's.
     Database(OpenFault),
-    /// The port cannot be listened at.
-    NoListener,
+    /// Nothing can listen at this port.
+    NoListener(u16),
     /// A connection could not be accepted.
     NoConnection,
     /// A stream broke off.
@@ -41,7 +41,7 @@ fn print_trouble<E: Write>(err: &mut Counted<E>, trouble: Trouble)
 {
     match trouble {
         Trouble::Database(fault) => print_database(err, fault),
-        Trouble::NoListener => print(err, b"cannot listen"),
+        Trouble::NoListener(port) => print_no_listener(err, port),
         Trouble::NoConnection => print(err, b"cannot accept"),
         Trouble::Stream(fault) => print_stream(err, fault),
     }
@@ -53,6 +53,14 @@ fn print_database<E: Write>(err: &mut Counted<E>, fault: OpenFault)
 {
     print(err, b"database ");
     print(err, database_fault(fault).as_bytes());
+}
+
+// Writes at which port nothing can listen.
+fn print_no_listener<E: Write>(err: &mut Counted<E>, port: u16)
+    ensures { Prints E.contents err.old err.new (codes "cannot listen at port " ++ decimal port) }
+{
+    print(err, b"cannot listen at port ");
+    print_number(err, u128::from(port));
 }
 
 // Writes what the fault of a stream is called, and after how many requests it came.
