@@ -22,7 +22,13 @@ ACCESS = (
     click.option("--netrc-file", type=PATH, metavar="FILE", help="They stand in this file."),
     click.option("--authority", metavar="FILE", help="The certificate to trust, where it is no public one."),
     click.option("--connections", type=click.IntRange(0, 32), default=0, metavar="N", help="So many at a time (default: 1, with https 4)."),
-    click.option("--wait", default=60.0, metavar="SECONDS", help="So long it is asked again where there is no answer (default: 60)."),
+    click.option(
+        "--wait",
+        type=click.IntRange(0, 86_400),
+        default=60,
+        metavar="SECONDS",
+        help="So long it is asked again where there is no answer (default: 60).",
+    ),
 )
 
 
@@ -34,7 +40,7 @@ def with_access(command: Any) -> Any:
 
 
 def connected(
-    address: str, by_netrc: bool, netrc_file: pathlib.Path | None, authority: str | None, connections: int, wait: float
+    address: str, by_netrc: bool, netrc_file: pathlib.Path | None, authority: str | None, connections: int, wait: int
 ) -> Connections:
     """The office at an address."""
     access: dict[str, Any] = access_by_netrc(address, netrc_file) if by_netrc or netrc_file else {}

@@ -48,6 +48,12 @@ def own_group() -> str:
     )
 
 
+def test_a_program_that_is_not_there(copy: pathlib.Path, tmp_path: pathlib.Path) -> None:
+    done = backed_up(copy, tmp_path, str(tmp_path / "none"))
+    assert (done.returncode, done.stderr) == (1, f"backup: FAILED: there is no program {tmp_path / 'none'}\n")
+    assert not (tmp_path / "backups").exists()
+
+
 def test_a_copy_for_a_group(copy: pathlib.Path, open_folder: pathlib.Path, program: str) -> None:
     database, place, group = pathlib.Path(shutil.copy(copy, open_folder / "office.db")), open_folder / "staff", own_group()
     for _ in range(2):

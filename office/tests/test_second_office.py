@@ -302,6 +302,8 @@ def test_what_ends_a_round(busy: str, copy: pathlib.Path, tmp_path: pathlib.Path
     said = run("resend", copy, "--to", busy, "--wait", "0", status=1)
     assert "answers 503 to senders/" in said and "run it again" in said
     assert "no answer from" in run("resend", copy, "--to", f"http://127.0.0.1:{free_port()}", "--wait", "0", status=1)
+    # (no number of seconds would be waited for ever)
+    assert "nan" in run("resend", copy, "--to", busy, "--wait", "nan", status=2)
     with pytest.raises(OfficeError, match="has no entry for 127.0.0.1"):
         (tmp_path / "netrc").write_text("machine office.example login office password secret\n")
         access_by_netrc(busy, tmp_path / "netrc")
