@@ -5,6 +5,7 @@ the machine, or open a database, is what .ci/calls/NAME lists. No other crate of
 opens a database. What a crate calls is told by the prover (`rattle check --list-calls`), over the libraries that `rt ci` left.
 """
 import concurrent.futures
+import hashlib
 import itertools
 import pathlib
 import re
@@ -13,6 +14,8 @@ import subprocess
 TOP = pathlib.Path(__file__).resolve().parent.parent
 CRATES = TOP / "crates"
 LISTS = TOP / ".ci" / "calls"
+# The folders of a crate that the prover reads.
+PARTS = ("src", "specs", "proofs")
 # The crates that the program is not made of.
 TESTS = "test_"
 # What reaches the machine, or opens a database, by a word of the source.
@@ -53,15 +56,25 @@ def others_that_reach(below):
                 yield f"calls: {file.relative_to(TOP)} has {found.strip()!r}, which society_host and society alone may have"
 
 
-def words_for(name, below, kit):
-    """The prover's words for a crate."""
+def sum_of(top, name, below):
+    """A sum of the sources of a crate of a checkout and of all crates below it."""
+    found = hashlib.sha256(repr(below[name]).encode())
+    for it in [*sorted(those_below(name, below)), name]:
+        for part in PARTS:
+            for file in sorted((top / "crates" / it / part).rglob("*.*")):
+                found.update(repr((str(file.relative_to(top)), file.read_bytes())).encode())
+    return found.hexdigest()
+
+
+def words_for(name, below, kit, built=CRATES):
+    """The prover's words for a crate, over the libraries that are built in a folder of crates."""
     yield from ["check", "--crate-name", name, "src/main.rt" if (CRATES / name / "src/main.rt").exists() else "src/lib.rt"]
     for it in ["std", *below[name]]:
-        library = CRATES / it / "out/rlib" if it in below else kit / "rlibs"
+        library = built / it / "out/rlib" if it in below else kit / "rlibs"
         yield from ["--extern", f"{it}={library / it}.rlib"]
     yield from ["-L", f"dependency={kit / 'rlibs'}"]
     for it in those_below(name, below):
-        yield from ["-L", f"dependency={CRATES / it / 'out/rlib'}"]
+        yield from ["-L", f"dependency={built / it / 'out/rlib'}"]
     yield from ["--antt-project", str(kit / "rattle/logic/antt-project.json"), "--logic-built", str(kit / "logic_built")]
     yield from ["--links", f"{name}=", "--jobs", "1", "--list-calls"]
 

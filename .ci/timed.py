@@ -1,12 +1,12 @@
 #!/usr/bin/env python3
-"""Runs `rt ci`, the trials of the built program and the tests of society-office, looks what the program calls of the machine and whether
-docs/TOUR.md and CONTRIBUTING.md name what is there, and passes on what all of them print. Before its last line, which counts all, it tells the processor minutes of each crate and part, and
-whether release/society is the program that was built.
+"""Runs `rt ci` and the must-fail edits, the trials of the built program and the tests of society-office, looks what the program calls of the
+machine and whether docs/TOUR.md and CONTRIBUTING.md name what is there, and passes on what all of them print. Before its last line, which
+counts all, it tells the processor minutes of each crate and part, and whether release/society is the program that was built.
 
-A part is what a process of the prover works on: a proof, a crate's tests, its first edit (the seed, a whole proof from nothing), or one of
-the further edits, which go over what the seed kept. Processes are looked at twice a second, so what a process did in its last half second
-counts under 'other', as do rt itself, linking, and the tests and programs that are run. A run that is ended (SIGTERM) ends all that it
-began, tells what it had done, and has the status 143.
+`rt ci` runs on a copy of the checkout without the edits, which edits.py tries beside it, those of a crate once that is proved. A part is what
+a process of the prover works on: a proof, a crate's tests, or edits. Processes are looked at twice a second, so what a process did in its
+last half second counts under 'other', as do rt itself, linking, and the tests and programs that are run. A run that is ended (SIGTERM) ends
+all that it began, tells what it had done, and has the status 143.
 """
 import collections
 import contextlib
@@ -19,19 +19,21 @@ import shutil
 import signal
 import subprocess
 import sys
+import tempfile
 import threading
 import time
 
 sys.path.append(os.path.join(os.path.dirname(os.path.abspath(__file__)), "..", "trials"))
 import calls
 import documents
+import edits
 import release
 import run as trials
 
-PARTS = ("proofs", "tests", "seeds", "edits")
+PARTS = ("proofs", "tests", "edits")
 LAST_LINE = re.compile(r"(\d+) passed, (\d+) failed\s*")
-# `rt ci` tells of edits that it can't read or try, and passes; an edit that says nothing fails here.
-BAD_EDITS = re.compile(r"rt: note: bad must-fail edits, as told above: (\d+)\b")
+# What `rt ci` says once a crate is proved, whose libraries are built then.
+PROVED = re.compile(r"rt: (\w+) (?:proved$|is kept: )")
 TICKS = os.sysconf("SC_CLK_TCK")
 # What a process asks for that is to have the children of those under it that end (prctl), and the status of a run that is ended.
 SET_CHILD_SUBREAPER = 36
@@ -103,10 +105,16 @@ def end_all():
         time.sleep(0.1)
 
 
+# The tries of edits, once they have begun.
+TRIES = []
+
+
 def stop(_signal, _frame):
     """Ends the run by an exception, so that what was measured is still told. What it began is ended first, since it is waited for on the way."""
     signal.signal(signal.SIGTERM, signal.SIG_IGN)
     ctypes.CDLL(None).prctl(SET_CHILD_SUBREAPER, 1, 0, 0, 0)
+    for it in TRIES:
+        it.end()
     end_all()
     raise Stopped
 
@@ -116,7 +124,6 @@ class Meter:
 
     def __init__(self):
         self.spent = {}
-        self.seeded = set()
         self.ended = threading.Event()
 
     def kind_of(self, process, words):
@@ -124,12 +131,9 @@ class Meter:
         if len(words) < 2 or os.path.basename(words[0]) != "rattle" or "--crate-name" not in words:
             return None
         crate = words[words.index("--crate-name") + 1]
-        if not folder_of(process).startswith("rt-edit-"):
-            return crate, "tests" if "--test" in words else "proofs"
-        # The first edit of a crate finds nothing kept; each further one has its work.
-        part = "edits" if crate in self.seeded else "seeds"
-        self.seeded.add(crate)
-        return crate, part
+        if folder_of(process).startswith(edits.PREFIX):
+            return crate, "edits"
+        return crate, "tests" if "--test" in words else "proofs"
 
     def look(self):
         """Reads how far each process of the prover is."""
@@ -163,19 +167,70 @@ class Meter:
         yield f"in all {total:.1f} processor minutes, {other:.1f} of them other; {minutes:.1f} minutes on {os.cpu_count()} processors"
 
 
-def passed_on(words):
-    """Runs a command and passes on what it prints but its last line; gives its status, and how many passed and failed by that line, none
-    where there was none. Bad edits count as failed."""
-    counts, bad = [], 0
-    with subprocess.Popen(words, stdin=subprocess.DEVNULL, stdout=subprocess.PIPE, text=True, errors="replace") as ran:
+@contextlib.contextmanager
+def copied(top):
+    """A copy of a checkout, without its edits and without what was built; at the end what was built in it is moved to the checkout."""
+    git = top / ".git"
+    with tempfile.TemporaryDirectory(prefix="gate-", dir=git if git.is_dir() else None) as room:
+        copy = pathlib.Path(room, "checkout")
+        crates = [str(it) for it in (top / "crates").iterdir()]
+
+        def left_out(folder, names):
+            return {it for it in names if it == ".git" or folder in crates and it in ("out", "must-fail")}
+
+        shutil.copytree(top, copy, symlinks=True, ignore=left_out)
+        # (by this `rt ci` knows the top of a repository)
+        (copy / ".git").mkdir()
+        try:
+            yield copy
+        finally:
+            for it in sorted(copy.glob("crates/*/out/*")):
+                moved(it, top / it.relative_to(copy))
+
+
+def moved(one, to):
+    """Moves a file or a folder, in the place of what is there."""
+    to.parent.mkdir(parents=True, exist_ok=True)
+    if to.is_dir() and not to.is_symlink():
+        shutil.rmtree(to)
+    else:
+        to.unlink(missing_ok=True)
+    shutil.move(one, to)
+
+
+def passed_on(words, folder, tell):
+    """Runs a command in a folder and passes on what it prints but its last line, each line also to `tell`; gives its status, and how many
+    passed and failed by that line, none where there was none."""
+    counts = []
+    with subprocess.Popen(words, cwd=folder, stdin=subprocess.DEVNULL, stdout=subprocess.PIPE, text=True, errors="replace") as ran:
         for line in ran.stdout:
             last = LAST_LINE.fullmatch(line)
             if last:
                 counts = [int(it) for it in last.groups()]
             else:
-                bad += sum(int(it) for it in BAD_EDITS.findall(line))
                 print(line, end="", flush=True)
-    return ran.returncode, added(counts, (0, bad))
+                tell(line)
+    return ran.returncode, counts
+
+
+def proved(words, kit):
+    """Runs `rt ci` on a copy of the checkout, and the edits of each crate once that is proved; gives its status, and how many passed and
+    failed of both."""
+    with copied(release.TOP) as copy:
+        tries = edits.Tries(kit, copy / "crates")
+        TRIES.append(tries)
+
+        def tell(line):
+            found = PROVED.match(line)
+            if found:
+                tries.begin(found[1])
+
+        status, counts = passed_on(words, copy, tell)
+        tries.widen()
+        if status == 0:
+            counts = added(counts, tries.told())
+        tries.end()
+    return status, counts
 
 
 def tools_checked(program):
@@ -196,12 +251,13 @@ def added(counts, others):
 
 
 def checked(words):
-    """The status of the run of `rt ci`, how many passed and failed of it and of all that is tried of the program then, and a line on the release.
-    A program that was not proved, or is not built, is neither tried nor compared."""
-    status, counts = passed_on(words)
+    """The status of the run of `rt ci`, how many passed and failed of it, of the edits and of all that is tried of the program then, and a line on
+    the release. A program that was not proved, or is not built, is neither tried nor compared."""
+    kit = pathlib.Path(shutil.which("rt")).resolve().parent.parent
+    status, counts = proved(words, kit)
     if status != 0:
         return status, counts, []
-    counts = added(counts, calls.checked(pathlib.Path(shutil.which("rt")).resolve().parent.parent))
+    counts = added(counts, calls.checked(kit))
     counts = added(counts, trials.check(trials.builds()))
     counts = added(counts, tools_checked(release.built_in(release.TOP)))
     counts = added(counts, documents.check())

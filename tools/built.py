@@ -8,7 +8,6 @@ A library is taken that this built of the sources as they are, else one of --lib
 and those of all crates below it are the same there. The gate is the judge, not this.
 """
 import argparse
-import hashlib
 import pathlib
 import shutil
 import subprocess
@@ -18,19 +17,8 @@ TOP = pathlib.Path(__file__).resolve().parent.parent
 sys.path.append(str(TOP / ".ci"))
 import calls
 
-PARTS = ("src", "specs", "proofs")
 MARK = "made-of"
 INCREMENTAL = ("--incremental", "out/incremental")
-
-
-def sum_of(top, name, below):
-    """A sum of the sources of a crate of a checkout and of all crates below it."""
-    found = hashlib.sha256(repr(below[name]).encode())
-    for it in [*sorted(calls.those_below(name, below)), name]:
-        for part in PARTS:
-            for file in sorted((top / "crates" / it / part).rglob("*.*")):
-                found.update(repr((str(file.relative_to(top)), file.read_bytes())).encode())
-    return found.hexdigest()
 
 
 def library_in(top, name):
@@ -40,10 +28,10 @@ def library_in(top, name):
 
 def library_of(name, below, other):
     """The folder in which the library of a crate is that was made of its sources; ends where there is none."""
-    wanted, own = sum_of(TOP, name, below), library_in(TOP, name)
+    wanted, own = calls.sum_of(TOP, name, below), library_in(TOP, name)
     if (own / MARK).is_file() and (own / MARK).read_text() == wanted:
         return own
-    if other and (library_in(other, name) / f"{name}.rlib").is_dir() and sum_of(other, name, below) == wanted:
+    if other and (library_in(other, name) / f"{name}.rlib").is_dir() and calls.sum_of(other, name, below) == wanted:
         return library_in(other, name)
     sys.exit(f"{name} is not built of its sources: tools/built.py library {name}")
 
@@ -73,7 +61,7 @@ def main():
     (folder / "out").mkdir(exist_ok=True)
     if given.verb == "check":
         sys.exit(subprocess.run([kit / "bin/rattle", "check", *words], cwd=folder, check=False).returncode)
-    made_of = sum_of(TOP, given.crate, below)
+    made_of = calls.sum_of(TOP, given.crate, below)
     shutil.rmtree(library, ignore_errors=True)
     library.mkdir()
     status = subprocess.run([kit / "bin/rattle", "build", *words, "-o", f"out/rlib/{given.crate}.rlib"], cwd=folder, check=False).returncode
