@@ -10,9 +10,9 @@ FIRST_SENDER, OTHER_SENDER = "PB000000012", "PB000000034"
 OFFICE, READER = "office", "reader"
 
 
-def head_of(user, method, target, length=None, password=SECRET, close=True):
-    """A request's head, its target as it is; `length` is that of the body that it announces."""
-    name = "" if user is None else "Authorization: Basic " + base64.b64encode(f"{user}:{password}".encode()).decode() + "\r\n"
+def head_of(user, method, target, length=None, password=SECRET, close=True, behind=""):
+    """A request's head, its target as it is; `length` is that of the body that it announces, `behind` is put behind name and password."""
+    name = "" if user is None else "Authorization: Basic " + base64.b64encode(f"{user}:{password}".encode()).decode() + behind + "\r\n"
     size = "" if length is None else f"Content-Length: {length}\r\n"
     end = "Connection: close\r\n" if close else ""
     return f"{method} {target} HTTP/1.1\r\nHost: localhost\r\n{end}{name}{size}\r\n".encode()

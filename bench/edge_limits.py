@@ -136,11 +136,11 @@ def not_read(proxy):
 
 
 # Limits by address and by user.
-def held(proxy, user, source):
+def held(proxy, user, source, behind=""):
     """A request of which half has come: it counts as a connection of its address and its user."""
     peer = connected(proxy.port, proxy, source=source)
     path = f"/v1/senders/{user}/transmissions/7" if user != OFFICE else "/v1/pools/77"
-    peer.sendall(head_of(user, "PUT", path, length=100) + b"half")
+    peer.sendall(head_of(user, "PUT", path, length=100, behind=behind) + b"half")
     return peer
 
 
@@ -164,6 +164,15 @@ def eight_of_user(proxy):
             stack.enter_context(held(proxy, OTHER, source))
         time.sleep(0.3)
         return (status_of(proxy, OTHER, "127.0.0.14"), status_of(proxy, OFFICE, "127.0.0.14")) == (503, 200)
+
+
+def eight_however_spelled(proxy):
+    """So is one whose name and password are spelled otherwise: nginx passes over what stands behind the `=`."""
+    with contextlib.ExitStack() as stack:
+        for number in range(8):
+            stack.enter_context(held(proxy, OTHER, f"127.0.0.{26 + number % 2}", behind=f"={number}" + "A" * 300 * (number % 2)))
+        time.sleep(0.3)
+        return (status_of(proxy, OTHER, "127.0.0.28"), status_of(proxy, OFFICE, "127.0.0.28")) == (503, 200)
 
 
 def guesses_of_user(proxy):
@@ -296,6 +305,7 @@ CASES = {
     not_read: [("        send_timeout 10s;\n", "")],
     eight_of_address: [("        limit_conn peers 8;\n", "")],
     eight_of_user: [("        limit_conn peers_of_user 8;\n", "")],
+    eight_however_spelled: [(r"(?<credentials>[^=\s]{1,180})[^=\s]", r"(?<credentials>\S+)")],
     guesses_of_user: [("limit_conn_zone $caller", "limit_conn_zone $remote_user")],
     twenty_of_address: [("        limit_req zone=requests burst=40;\n", "")],
     twenty_of_user: [("        limit_req zone=requests_of_user burst=40;\n", "")],
