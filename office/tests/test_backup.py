@@ -2,17 +2,19 @@
 
 import contextlib
 import grp
+import http.server
 import os
 import pathlib
 import shutil
 import subprocess
 import sys
 import tempfile
+import threading
 import time
 from collections.abc import Iterator
 
 import pytest
-from conftest import ROOT, running
+from conftest import OFFICE, ROOT, running
 from society_office.program import free_port
 
 BACKUP, RESTORE = ROOT / "debian/bin/society-backup", ROOT / "debian/bin/society-restore"
@@ -141,3 +143,49 @@ def test_a_front_that_no_office_tells_is_refused_first(copy: pathlib.Path, tmp_p
     words = [RESTORE, "--from", copy, "--db", tmp_path / "office.db", "--sender", "PB000000012", "--front", front, "--service", "no-such"]
     done = subprocess.run(words, capture_output=True, text=True, check=False)
     assert done.returncode == 2 and done.stderr.startswith("usage: society-restore --from") and not (tmp_path / "office.db").exists()
+
+
+# In the place of `systemctl`: `start` starts an office that ends with its first connection.
+SERVICE = """#!/bin/bash
+cd "$(dirname "$0")"
+case $1 in
+  start) "$SOCIETY_PROGRAM" serve --existing --db "$SOCIETY_FILE" WORDS > out 2>&1 < /dev/null & echo $! > pid ;;
+  stop) { kill "$(cat pid)"; } 2> /dev/null ;;
+esac
+exit 0
+"""
+
+
+class Refusing(http.server.BaseHTTPRequestHandler):
+    """A proxy that lets nobody through."""
+
+    def do_GET(self) -> None:
+        self.send_error(403)
+
+    def log_message(self, *_: object) -> None:
+        pass
+
+
+def test_a_restore_asks_the_office_and_no_proxy(copy: pathlib.Path, tmp_path: pathlib.Path, program: str) -> None:
+    port, database, tools = free_port(), tmp_path / "office/office.db", tmp_path / "tools"
+    tools.mkdir()
+    database.parent.mkdir()
+    words = " ".join(f"'{it}'" for it in ["--port", str(port), "--connections", "1", *OFFICE])
+    (tools / "systemctl").write_text(SERVICE.replace("WORDS", words))
+    (tools / "systemctl").chmod(0o755)
+    with http.server.HTTPServer(("127.0.0.1", 0), Refusing) as proxy:
+        threading.Thread(target=proxy.serve_forever, daemon=True).start()
+        address = f"http://127.0.0.1:{proxy.server_port}"
+        (tmp_path / ".curlrc").write_text("output = /dev/null\n")
+        env = {**os.environ, "PATH": f"{tools}:{os.environ['PATH']}", "http_proxy": address, "HOME": str(tmp_path)}
+        env |= {"SOCIETY_PROGRAM": program, "SOCIETY_FILE": str(database)}
+        asked = ["--sender", "PB000000012", "--front", "3", "--port", str(port), "--program", program]
+        done = subprocess.run([RESTORE, "--from", copy, "--db", database, *asked], env=env, capture_output=True, text=True, check=False)
+        proxy.shutdown()
+    assert (done.returncode, done.stderr) == (0, "") and "and the front of PB000000012 is 3" in done.stdout
+
+
+def test_a_restore_without_a_program(copy: pathlib.Path, tmp_path: pathlib.Path) -> None:
+    words = [RESTORE, "--from", copy, "--db", tmp_path / "office.db", "--service", "none", "--program", tmp_path / "none"]
+    done = subprocess.run(words, capture_output=True, text=True, check=False)
+    assert (done.returncode, done.stderr) == (1, f"restore: FAILED: there is no program {tmp_path / 'none'}\n")
