@@ -50,7 +50,9 @@ class Copy:
     def rows(self, question: str, *values: Any) -> Iterator[Any]:
         """The rows that answer a question, one after another."""
         try:
-            yield from self.database.execute(question, values)
+            # (no `yield from`: it would end the question too, where the rest is not asked for, and that after the file)
+            for row in self.database.execute(question, values):
+                yield row
         except sqlite3.DatabaseError as error:
             raise self.damaged(error) from error
 

@@ -142,6 +142,8 @@ def new_folder(target: pathlib.Path, is_own: Callable[[str], bool]) -> Iterator[
 
     An OfficeError where it can't, or where what is there has a file that is not one of its own, by its name."""
     target = target.resolve()
+    if not target.name or target.exists() and not target.is_dir():
+        raise OfficeError(f"{target} is no folder of pages, and what is there would be replaced: name another folder")
     draft, old = (target.with_name(f".{target.name}.{it}") for it in ("new", "old"))
     if target.is_dir():
         for it in sorted(target.rglob("*")):

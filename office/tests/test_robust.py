@@ -134,6 +134,20 @@ def test_pages_are_replaced_whole_or_not_at_all(copy: pathlib.Path, tmp_path: pa
     assert (folder / "letter.txt").exists()
 
 
+@pytest.mark.parametrize("place", ["copy.db", "/"])
+def test_pages_take_the_place_of_nothing_but_a_folder(copy: pathlib.Path, place: str) -> None:
+    before = copy.read_bytes()
+    said = run("site", copy, "--into", copy.parent / place, status=1)
+    assert "is no folder of pages" in said and copy.read_bytes() == before and list(copy.parent.iterdir()) == [copy]
+
+
+def test_an_office_that_does_not_answer_is_all_that_is_told(copy: pathlib.Path, program: str) -> None:
+    address = f"http://127.0.0.1:{free_port()}"
+    done = shell(f"$it compare {copy} {address} --wait 0", SOCIETY_PROGRAM=program)
+    assert done.returncode == 1 and done.stdout == ""
+    assert [it.partition(": [")[0] for it in done.stderr.splitlines()] == [f"society-office: no answer from {address}"]
+
+
 @pytest.mark.parametrize("words", [["site"], ["statement", "--all"]])
 def test_two_commands_that_write_one_folder(copy: pathlib.Path, tmp_path: pathlib.Path, words: list[str]) -> None:
     alone, both = tmp_path / "alone", tmp_path / "both"
