@@ -7,14 +7,13 @@ import pathlib
 import queue
 import ssl
 import time
-import urllib.parse
 from collections.abc import Iterable, Iterator
 from concurrent.futures import ThreadPoolExecutor
 from typing import Any
 
 from society_office.errors import OfficeError
 from society_office.faults import NOT_TAKEN
-from society_office.program import Answer, Office
+from society_office.program import Answer, Office, parts_of
 
 # What is asked again: the office had no memory or disk for it, or the proxy had too many requests, or no office behind it.
 AGAIN = (502, 503, 504)
@@ -121,7 +120,7 @@ class Connections:
 
 def access_by_netrc(address: str, file: pathlib.Path | None) -> dict[str, str]:
     """The user and the password that a file such as ~/.netrc has for the host of an address; an OfficeError where it has none."""
-    host = urllib.parse.urlsplit(address).hostname or ""
+    host = parts_of(address).hostname or ""
     try:
         found = netrc.netrc(str(file) if file else None).authenticators(host)
     except netrc.NetrcParseError as error:

@@ -18,7 +18,6 @@ from society_office.return_faults import looks_like_return, return_faults
 from society_office.work_faults import CheckedWork, Fault, first_warnings, warned
 
 SENDER = re.compile(r"[0-9A-Z]{11}", re.ASCII)
-TAKEN = (200, 201, 202)
 # Faults that only what was registered before shows.
 OF_THE_LINE = (WorkFault.REGISTERED, WorkFault.NOT_REGISTERED)
 # The reporter under which a trial office is asked.
@@ -143,12 +142,16 @@ def check_return(office: Asked, path: str, number: int, it: Sent) -> None:
     if answer is None:
         return
     it.rows = return_faults(it.body)
-    it.state = "stored" if answer.status in TAKEN else "refused"
-    it.refusal = "" if answer.status in TAKEN else faults.refusal_text("return", answer)
-    own = (it.rows[0].number, it.rows[0].line) if it.rows else None
-    told = (answer.json["fault"], answer.json["row"]) if answer.status == 422 else None
-    if own != told and answer.status in (*TAKEN, 422):
-        it.differs.append(f"our own reading finds {fault_at(own, 'row')}, the program {fault_at(told, 'row')}: the program is right")
+    it.state = "stored" if answer.is_taken else "refused"
+    it.refusal = "" if answer.is_taken else faults.refusal_text("return", answer)
+    note_other(it, it.rows, answer, "row")
+
+
+def note_other(it: Sent, own: Sequence[Fault], answer: Answer, where: str) -> None:
+    """Notes where our own reading finds another first fault than the program."""
+    found, told = (own[0].number, own[0].line) if own else None, answer.fault(where)
+    if found != told and (answer.is_taken or told):
+        it.differs.append(f"our own reading finds {fault_at(found, where)}, the program {fault_at(told, where)}: the program is right")
 
 
 def put(office: Asked, path: str, it: Sent) -> Answer | None:
@@ -201,7 +204,7 @@ def are_there(office: Asked, sender: str, front: int, files: list[Sent], society
     paths = (path_of(front - len(tried) + k, society) for k in range(1, len(tried) + 1))
     for it, path in zip(tried, paths):
         answer = put(office, f"/v1/senders/{sender}/{path}", it)
-        if answer is None or answer.status != 200:
+        if answer is None or not answer.is_taken or answer.status != 200:
             return False
     for it in tried:
         it.tried_before = True
@@ -231,16 +234,12 @@ def give_numbers(files: list[Sent], front: int, society: int) -> None:
 
 def take_answer(it: Sent, answer: Answer) -> None:
     """Notes what the program answered to a file, and where our own reading finds another fault of the file."""
-    if answer.status in TAKEN:
-        it.state = "applied" if answer.json.get("state") == "applied" else "held"
+    if answer.is_taken:
+        it.state = "applied" if answer.told["state"] == "applied" else "held"
     else:
         it.state, it.refusal = "refused", faults.refusal_text("file", answer)
         it.is_reused = answer.error == "reused"
-    first = it.own.faults[0] if it.own.faults else None
-    own = (first.number, first.line) if first else None
-    told = (answer.json["fault"], answer.json["line"]) if answer.status == 422 else None
-    if own != told and answer.status in (*TAKEN, 422):
-        it.differs.append(f"our own reading finds {fault_at(own, 'line')}, the program {fault_at(told, 'line')}: the program is right")
+    note_other(it, it.own.faults, answer, "line")
 
 
 def state_ends(office: Asked, sender: str, front: int, files: list[Sent]) -> Iterator[str]:
@@ -255,7 +254,7 @@ def state_ends(office: Asked, sender: str, front: int, files: list[Sent]) -> Ite
         body = f'{{"last":{lasts[year]},"next":{following}}}'
         path = f"/v1/senders/{sender}/segments/{segment_text(year)}"
         answer = office.ask("PUT", path, body.encode())
-        yield f"PUT {path} {body}" + ("" if answer.status in TAKEN else f" (not taken: status {answer.status})")
+        yield f"PUT {path} {body}" + ("" if answer.is_taken else f" (not taken: status {answer.status})")
 
 
 def ask_verdicts(office: Asked, sender: str, it: Sent) -> None:
@@ -264,6 +263,8 @@ def ask_verdicts(office: Asked, sender: str, it: Sent) -> None:
     if answer.status != 200:
         it.state = "held"
         return
+    if not is_of_verdicts(answer.json):
+        raise OfficeError(f"{it.label}: what answers tells no verdicts, so it is no office")
     it.state, it.verdicts = "applied", answer.json
     acknowledged = office.ask("GET", f"/v1/senders/{sender}/acks/{as_sent(it.number)}").body
     it.titles = [(text(ACK_NUMBER.of(line)), text(ACK_TITLE.of(line))) for line in acknowledged.split(b"\r\n") if line.startswith(b"ACK")]
@@ -274,6 +275,13 @@ def ask_verdicts(office: Asked, sender: str, it: Sent) -> None:
         own, told = least(work), verdict.get("fault")
         if own != told and not (own is None and told in OF_THE_LINE):
             it.differs.append(f"{work.number}: our own reading finds {named(own)}, the program {named(told)}: the program is right")
+
+
+def is_of_verdicts(found: Any) -> bool:
+    """Whether an answer tells what became of works: each a fault, or the revision that it is."""
+    return isinstance(found, list) and all(
+        isinstance(it, dict) and isinstance(it.get("fault", it.get("revision")), int) for it in found
+    )
 
 
 def least(work: CheckedWork) -> int | None:

@@ -1,5 +1,6 @@
 """What faults and refusals mean and how they are cured, in the words of the office's own table."""
 
+import contextlib
 import functools
 import importlib.resources
 import json
@@ -61,10 +62,13 @@ def conflict_text(kind: str, body: dict[str, Any]) -> str:
 
 def refusal_text(kind: str, answer: "Answer") -> str:
     """Why a file, a return or an order was not taken."""
-    body = answer.json
-    if answer.status == 422:
+    body = answer.told
+    if answer.status == 422 and "fault" in body:
         at = f" at line {body['line']}" if "line" in body else f" in row {body['row']}" if "row" in body else ""
         return f"{kind} fault {body['fault']}{at}: {words(kind, body['fault'])}"
     if answer.status == 409:
-        return conflict_text(kind, body)
+        with contextlib.suppress(KeyError):
+            return conflict_text(kind, body)
+    if answer.status < 300:
+        return f"status {answer.status} of what is no office: look at the address"
     return NOT_TAKEN.get(answer.status, f"status {answer.status}")

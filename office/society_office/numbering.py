@@ -8,6 +8,7 @@ from collections.abc import Iterable, Sequence
 YEARS = 1_000_000
 PER_YEAR = 10_000
 PLAIN = -1
+LAST_RANK = YEARS + PER_YEAR * 100 - 1
 FILE_NAME = re.compile(r"CW(\d\d)(\d{4})[A-Z0-9]{2,3}_(\d{3})\.V2[12]", re.IGNORECASE | re.ASCII)
 # The code of a sender in the name of a file, where only its number counts.
 ANY_CODE = "CHK"

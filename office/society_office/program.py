@@ -19,13 +19,15 @@ from typing import Any
 from society_office import signals
 from society_office.copy import Copy, open_copy
 from society_office.errors import OfficeError
-from society_office.numbering import rank_of
+from society_office.numbering import LAST_RANK, rank_of
 from society_office.soundness import BROKEN, CURE, need_sound
 
 CHECKOUT = pathlib.Path(__file__).resolve().parent.parent.parent
 # Seconds that a throw-away office may take to listen, and to answer.
 START, ANSWER = 600, 600
 MANY = 1_000_000
+# An office answers so to what it takes, or has already.
+TAKEN = (200, 201, 202)
 
 
 def program_of_the_checkout() -> str | None:
@@ -70,8 +72,23 @@ class Answer:
         """What the body says, where it is JSON; an empty object where it is not."""
         try:
             return json.loads(self.body)
-        except ValueError:
+        except (ValueError, RecursionError):
             return {}
+
+    @property
+    def told(self) -> dict[str, Any]:
+        """What the body says, where it is a JSON object; an empty one where it is not."""
+        return found if isinstance(found := self.json, dict) else {}
+
+    @property
+    def is_taken(self) -> bool:
+        """Whether an office has what was sent: it then tells a state, which a page that answers in its place does not."""
+        return self.status in TAKEN and "state" in self.told
+
+    def fault(self, where: str) -> tuple[int, int] | None:
+        """The fault of what was sent, and its `line` or `row`; None where none is told."""
+        number, place = self.told.get("fault"), self.told.get(where)
+        return (number, place) if self.status == 422 and isinstance(number, int) and isinstance(place, int) else None
 
     @property
     def standing(self) -> tuple[int, set[int]] | None:
@@ -80,13 +97,22 @@ class Answer:
             told = [rank_of(it) for it in (self.json["front"], *self.json["held"])]
         except (LookupError, TypeError):
             return None
-        known = [it for it in told if it is not None]
+        known = [it for it in told if it is not None and 0 <= it <= LAST_RANK]
         return (known[0], set(known[1:])) if len(known) == len(told) else None
 
     @property
     def error(self) -> str:
         """Why the office refuses what was sent, in its own word; the empty text where it tells none."""
-        return str(self.json.get("error", "")) if isinstance(self.json, dict) else ""
+        return str(self.told.get("error", ""))
+
+
+def parts_of(address: str) -> urllib.parse.SplitResult:
+    """The parts of an office's address; an OfficeError where it is none."""
+    with contextlib.suppress(ValueError):
+        parts = urllib.parse.urlsplit(address)
+        if parts.scheme in ("http", "https") and parts.hostname and not parts.query and not parts.fragment and port_of(parts) is not None:
+            return parts
+    raise OfficeError(f"{address} is no address of an office: write http://127.0.0.1:8080 or https://office.example:8443")
 
 
 def port_of(parts: urllib.parse.SplitResult) -> int | None:
@@ -110,18 +136,16 @@ class Office:
 
     def __init__(self, address: str, user: str = "", password: str = "", authority: str | None = None, seconds: float = ANSWER) -> None:
         """An office at http://host:port or https://host:port; an OfficeError where the address is none."""
-        parts = urllib.parse.urlsplit(address)
-        if parts.scheme not in ("http", "https") or not parts.hostname or parts.query or parts.fragment or port_of(parts) is None:
-            raise OfficeError(f"{address} is no address of an office: write http://127.0.0.1:8080 or https://office.example:8443")
+        parts = parts_of(address)
         self.address, self.path, self.is_broken_off = address, parts.path.rstrip("/"), False
         self.headers = {"Authorization": "Basic " + base64.b64encode(f"{user}:{password}".encode()).decode()} if user else {}
         if parts.scheme == "https":
             context = context_by(authority)
             self.connection: http.client.HTTPConnection = http.client.HTTPSConnection(
-                parts.hostname, port_of(parts), timeout=seconds, context=context
+                parts.hostname or "", port_of(parts), timeout=seconds, context=context
             )
         else:
-            self.connection = http.client.HTTPConnection(parts.hostname, port_of(parts), timeout=seconds)
+            self.connection = http.client.HTTPConnection(parts.hostname or "", port_of(parts), timeout=seconds)
 
     def ask(self, method: str, path: str, body: bytes | None = None) -> Answer:
         """The answer to a request; an OfficeError where none came."""

@@ -12,7 +12,7 @@ from society_office.numbering import Line, path_of, segment_of, segment_text
 from society_office.program import Answer
 
 END, FILE, RETURN, ORDER = "end", "file", "return", "order"
-NEW, KNOWN, CONFLICT = (201, 202), 200, 409
+NEW, CONFLICT = (201, 202), 409
 # Why the other office refuses what this one has taken.
 WHY = {
     (FILE, "reused"): "it has another file under this number",
@@ -41,9 +41,9 @@ class Tally:
 
     def take(self, it: Request, answer: Answer) -> None:
         """Counts an answer."""
-        if answer.status in NEW:
+        if answer.is_taken and answer.status in NEW:
             self.new += 1
-        elif answer.status == KNOWN:
+        elif answer.is_taken:
             self.known += 1
         else:
             self.refused.setdefault(why(it, answer), []).append(it.path)
@@ -164,7 +164,7 @@ def closed(copy: Copy, office: Connections, tally: Tally) -> set[int]:
     found = set[int]()
     pools = [pool for pool, _ in orders(copy)]
     for pool, (it, answer) in zip(pools, office.answers(it for _, it in orders(copy))):
-        if answer.status in (KNOWN, *NEW):
+        if answer.is_taken:
             tally.take(it, answer)
             found.add(pool)
     return found

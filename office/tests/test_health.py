@@ -1,5 +1,6 @@
 """Whether the office is well."""
 
+import contextlib
 import http.server
 import json
 import os
@@ -9,6 +10,7 @@ import shutil
 import subprocess
 import threading
 import time
+from collections.abc import Iterator
 
 import pytest
 import quarter
@@ -75,34 +77,72 @@ def test_a_disk_that_is_full_hides_nothing(tmp_path: pathlib.Path) -> None:
 class Other(http.server.BaseHTTPRequestHandler):
     """Another program than an office, which answers each question alike."""
 
-    said = b""
+    said, status = b"", 200
 
-    def do_GET(self) -> None:
+    def do_GET(self, status: int = 200) -> None:
         """The answer."""
-        self.send_response(200)
+        self.send_response(status)
         self.send_header("Content-Length", str(len(self.said)))
         self.end_headers()
         self.wfile.write(self.said)
 
-    do_PUT = do_GET
+    def do_PUT(self) -> None:
+        """The same, once all is read."""
+        self.rfile.read(int(self.headers["Content-Length"]))
+        self.do_GET(self.status)
 
     def log_message(self, *_: object) -> None:
         """Nothing."""
 
 
-@pytest.mark.parametrize("said", [b"[]", b"5", b"null", b"<html>", b'{"front":"x","held":[]}', b'{"front":[],"held":[]}', b'{"front":1}'])
-def test_another_program_that_answers(copy: pathlib.Path, tmp_path: pathlib.Path, monkeypatch: pytest.MonkeyPatch, said: bytes) -> None:
+@contextlib.contextmanager
+def other(monkeypatch: pytest.MonkeyPatch, said: bytes, status: int = 200) -> Iterator[str]:
+    """The address of such a program; `status` is that of its answers to what is put."""
     monkeypatch.setattr(Other, "said", said)
-    (tmp_path / "it.cwr").write_bytes(FIRST)
-    (tmp_path / "it.csv").write_text("isrc,plays,seconds\n")
+    monkeypatch.setattr(Other, "status", status)
     with http.server.ThreadingHTTPServer(("127.0.0.1", 0), Other) as server:
         threading.Thread(target=server.serve_forever, daemon=True).start()
-        address = f"http://127.0.0.1:{server.server_port}"
+        yield f"http://127.0.0.1:{server.server_port}"
+        server.shutdown()
+
+
+NO_FRONTS = [b"", b"[]", b"5", b"null", b"<html>", b'{"front":"x","held":[]}', b'{"front":[],"held":[]}', b'{"front":1}']
+
+
+@pytest.mark.parametrize("said", [*NO_FRONTS, b'{"front":-1,"held":[]}', b'{"front":2000000,"held":[]}', b"[" * 100_000])
+def test_another_program_that_answers(copy: pathlib.Path, tmp_path: pathlib.Path, monkeypatch: pytest.MonkeyPatch, said: bytes) -> None:
+    (tmp_path / "it.cwr").write_bytes(FIRST)
+    (tmp_path / "it.csv").write_text("isrc,plays,seconds\n")
+    with other(monkeypatch, said) as address:
         assert "and with no front: it is no office" in run("health", "--office", address, status=2, out=True)
         assert "tells no front, so it is no office" in run("check", tmp_path / "it.cwr", "--office", address, status=1)
         assert "is no office" in run("resend", copy, "--to", address, "--since-fronts", status=1)
-        run("check", tmp_path / "it.csv", "--office", address)
-        server.shutdown()
+        # (what it answers to what is put is not that it has it)
+        assert "REFUSED, status 200 of what is no office" in run("check", tmp_path / "it.csv", "--office", address, status=1, out=True)
+        assert "26 sent: 0 new, 0 known, 26 refused" in run("resend", copy, "--to", address, status=1, out=True)
+
+
+@pytest.mark.parametrize("status", [200, 204, 409, 422])
+@pytest.mark.parametrize("more", ["", ',"fault":"x","line":null', ',"error":"ended"', ',"error":"cut"', ',"state":"applied"'])
+def test_another_program_that_tells_a_front(tmp_path: pathlib.Path, monkeypatch: pytest.MonkeyPatch, status: int, more: str) -> None:
+    (tmp_path / "it.cwr").write_bytes(FIRST)
+    (tmp_path / "it.csv").write_text("isrc,plays,seconds\n")
+    with other(monkeypatch, b'{"front":0,"held":[]%s}' % more.encode(), status) as address:
+        for name in "it.cwr", "it.csv":
+            is_taken = status == 200 and "state" in more
+            if is_taken and name == "it.cwr":
+                assert "tells no verdicts, so it is no office" in run("check", tmp_path / name, "--office", address, status=1)
+            else:
+                run("check", tmp_path / name, "--office", address, status=0 if is_taken else 1, out=True)
+
+
+@pytest.mark.parametrize("address", ["http://[::1", "http://\u2100.example"])
+def test_what_is_no_address_by_any_command(copy: pathlib.Path, tmp_path: pathlib.Path, address: str) -> None:
+    (tmp_path / "it.cwr").write_bytes(FIRST)
+    asking = ["check", tmp_path / "it.cwr", "--office"], ["resend", copy, "--netrc", "--to"], ["resend", copy, "--to"], ["compare", copy]
+    for words in asking:
+        assert f"society-office: {address} is no address of an office" in run(*words, address, status=1)
+    assert f"{address} is no address of an office" in run("health", "--office", address, status=2, out=True)
 
 
 @pytest.mark.parametrize("free, state", [(11, GOOD), (10, GOOD), (9, WARNING), (5, WARNING), (4, WRONG)])
