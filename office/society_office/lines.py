@@ -10,7 +10,7 @@ from collections.abc import Iterable, Iterator, Mapping
 from typing import NamedTuple, TextIO, TypeVar
 
 from society_office.claims import NEVER, Claims
-from society_office.plain_text import plain
+from society_office.plain_text import FORMULA, plain
 from society_office.pool_names import POOL_COLUMNS, PoolNames, named
 from society_office.records import Works
 
@@ -18,7 +18,7 @@ NO_RECORDING = "-"
 # What makes a cell of CSV need quotes.
 QUOTED = re.compile(r'[",\n]')
 # What a text has that can't stand in a cell as it is.
-SPECIAL = re.compile(r'[",\n]|^[=+@\t\r-]')
+SPECIAL = re.compile(r'[",\n]|' + FORMULA.pattern)
 # What a line says of its pool beside the number stands last, so that who reads lines by their places reads on.
 COLUMNS = ["pool", "right", "isrc", "title", "work", "publisher", "account", "units", *POOL_COLUMNS]
 # Lines of a statement that are held; of more of them there are the sums, and all of them as CSV.

@@ -14,6 +14,7 @@ from society_office import lines, order_output, parties, statement_output, state
 from society_office.cli import main
 from society_office.copy import open_copy
 from society_office.page_sums import changed
+from society_office.plain_text import plain
 from society_office.pool_names import pool_names
 from society_office.records import sender_names
 from society_office.statements import Statements, folder_of
@@ -61,7 +62,7 @@ def test_a_publishers_statement_has_what_its_works_earned(copy: pathlib.Path, se
 
 
 # Names of pools that a CSV has to quote, or to keep from being formulas.
-NAMED = '1 2026-01-01/2026-03-31 =A "first", of all\n3 2026-04-01/2026-06-30 Second\n'
+NAMED = '1 2026-01-01/2026-03-31 =A "first", of all\n3 2026-04-01/2026-06-30 Second;-B\n'
 
 
 @pytest.fixture
@@ -117,7 +118,15 @@ def test_a_csv_is_what_a_writer_of_csv_makes(copy: pathlib.Path, key: str, reque
     assert run("statement", copy, key, "--format", "csv") == wanted
 
 
-DAYS = {"1": ("'=A \"first\", of all", "2026-01-01", "2026-03-31"), "3": ("Second", "2026-04-01", "2026-06-30")}
+@pytest.mark.parametrize(
+    "text, cell",
+    [("A=B", "A=B"), ("=A", "'=A"), ("-", "'-"), (" +A", " '+A"), ("A;=B", "A;'=B"), ("=A; @B;;-C", "'=A; '@B;;'-C"), ("\t=A", "'\t=A")],
+)
+def test_no_cell_is_a_formula_also_where_cells_end_with_semicolons(text: str, cell: str) -> None:
+    assert plain(text) == lines.cell(text) == cell
+
+
+DAYS = {"1": ("'=A \"first\", of all", "2026-01-01", "2026-03-31"), "3": ("Second;'-B", "2026-04-01", "2026-06-30")}
 
 
 @pytest.mark.parametrize("key", sorted([*reckoning.balances(quarter.OFFICE), *quarter.NAMES]))
