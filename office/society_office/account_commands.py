@@ -15,6 +15,7 @@ from society_office.pool_names import pool_names
 from society_office.program import open_whole
 from society_office.return_names import one_return
 from society_office.soundness import need_sound
+from society_office.statements import SENDER
 from society_office.terminal import console
 
 
@@ -58,6 +59,8 @@ def explain(
     got the last units. It is reckoned again from returns, works and the order; where the credits are others, that is said, with status 1.
     """
     wanted = isrc.upper().replace("-", "") if isrc and isrc != "-" else isrc
+    if wanted and not wanted.isascii():
+        raise OfficeError(f"{isrc!r} is no ISRC: write ATABC2600001")
     names = pool_names(copy, pools)
     with open_whole(copy) as opened:
         found = Explainer(noted(opened), pool).of(account, wanted)
@@ -108,6 +111,8 @@ def give_file(copy: pathlib.Path, sender: str, number: str, output: pathlib.Path
     rank = rank_of(number)
     if rank is None or as_sent(rank) != number:
         raise OfficeError(f"{number!r} is no number of a file: write 7 or 26-0001")
+    if not SENDER.fullmatch(sender):
+        raise OfficeError(f"{sender!r} is no sender of files: write its key, as PB000000012")
     with open_whole(copy) as opened:
         row = noted(opened).row("SELECT body FROM transmissions WHERE sender = ? AND number = ?", sender, rank)
     if row is None:

@@ -14,7 +14,8 @@ import click
 
 from society_office import __version__, account_commands, checking, health, money_commands, parties, signals, standby_commands
 from society_office import statement_output, why
-from society_office.command_words import COPY_HELP, PATH, POOLS_HELP, PROGRAM_HELP, VOID_HELP, WRONG, fail, noted, void_list
+from society_office.command_words import COPY_HELP, NUMBER, PATH, POOL, POOLS_HELP, PROGRAM_HELP, VOID_HELP, WRONG, fail
+from society_office.command_words import noted, void_list
 from society_office.copy import beside
 from society_office.errors import OfficeError
 from society_office.pages import write_text
@@ -69,7 +70,7 @@ def main() -> None:
 @main.command(epilog=COPY_HELP, short_help="What an account was credited, and for which works.")
 @click.argument("copy", type=PATH)
 @click.argument("key", required=False)
-@click.option("--since", type=click.IntRange(min=1), default=1, metavar="POOL", help="Only the pools from this number on.")
+@click.option("--since", type=POOL, default=1, metavar="POOL", help="Only the pools from this number on.")
 @click.option("--format", "form", type=click.Choice(["table", "csv", "html", "pdf"]), default="table", help="How it is written.")
 @click.option("--output", type=PATH, help="The file to write; a PDF needs one. Without it, standard output.")
 @click.option(
@@ -240,12 +241,12 @@ def tell_why(copy: pathlib.Path, sender: str) -> None:
 @click.option("--certificate", metavar="WHERE", help="The proxy's certificate: a file, or host:port.")
 @click.option("--standby", type=PATH, metavar="FILE", help="What `resend --state` keeps of a standby.")
 @click.option("--program", metavar="FILE", help="The program that audits the backup (default: `society` on the PATH).")
-@click.option("--seconds", default=5.0, show_default=True, help="An answer takes no longer.")
-@click.option("--memory", default=67.0, show_default=True, help="A start needs so many percent of the memory it may take.")
-@click.option("--free", default=10.0, show_default=True, help="The disk has so many percent free.")
-@click.option("--hours", default=30.0, show_default=True, help="The newest backup is no older.")
-@click.option("--days", default=14.0, show_default=True, help="The certificate has as many days left.")
-@click.option("--minutes", default=15.0, show_default=True, help="The standby has been behind for no longer.")
+@click.option("--seconds", type=NUMBER, default=5.0, show_default=True, help="An answer takes no longer.")
+@click.option("--memory", type=NUMBER, default=67.0, show_default=True, help="A start needs so many percent of the memory it may take.")
+@click.option("--free", type=NUMBER, default=10.0, show_default=True, help="The disk has so many percent free.")
+@click.option("--hours", type=NUMBER, default=30.0, show_default=True, help="The newest backup is no older.")
+@click.option("--days", type=NUMBER, default=14.0, show_default=True, help="The certificate has as many days left.")
+@click.option("--minutes", type=NUMBER, default=15.0, show_default=True, help="The standby has been behind for no longer.")
 @click.option("--json", "form", flag_value="json", help="As JSON.")
 @click.option("--metrics", "form", flag_value="metrics", help="As text for Prometheus.")
 def tell_health(**given: Any) -> None:

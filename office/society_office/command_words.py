@@ -1,8 +1,9 @@
 """What commands have in common: words that several of them take, and how they end where something is wrong."""
 
+import math
 import pathlib
 import sys
-from typing import NoReturn
+from typing import Any, NoReturn
 
 import click
 
@@ -11,7 +12,18 @@ from society_office.orders import LAST_POOL
 from society_office.return_names import Entry, listed
 from society_office.terminal import say
 
+
+class Number(click.FloatRange):
+    """A number of seconds, days or percent; none of the words `nan` and `inf`, with which nothing is ever late."""
+
+    def convert(self, value: Any, param: click.Parameter | None, ctx: click.Context | None) -> Any:
+        """The number that a word is."""
+        found = super().convert(value, param, ctx)
+        return found if math.isfinite(found) else self.fail(f"{value} is no number.", param, ctx)
+
+
 WRONG = 1
+NUMBER = Number(0, 1_000_000)
 PATH = click.Path(path_type=pathlib.Path)
 POOL = click.IntRange(1, LAST_POOL)
 COPY_HELP = "COPY is a copy of the office's file, as the nightly backup makes it: one file, which no office has open."

@@ -161,7 +161,7 @@ def is_in_use(path: pathlib.Path) -> bool:
 def beside(path: pathlib.Path, ending: str) -> pathlib.Path:
     """What SQLite has beside a file, as its log (`-wal`): where a link leads, and not beside the link."""
     place = pathlib.Path(os.path.realpath(path)) if path.is_symlink() else path
-    return place.with_name(place.name + ending)
+    return place.parent / (place.name + ending)
 
 
 def has_frames(log: pathlib.Path) -> bool:

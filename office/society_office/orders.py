@@ -6,7 +6,7 @@ from collections.abc import Callable, Iterator, Mapping, Sequence
 
 from society_office.copy import Copy
 from society_office.errors import OfficeError
-from society_office.numbering import as_json, rank_of
+from society_office.numbering import as_json, as_sent, rank_of
 from society_office.return_names import LAST_NUMBER, Entry, Return, are_listed, names_text, unmatched
 from society_office.stored_returns import Stored, corrected_pools, far_ones, same_plays, stored_returns
 
@@ -78,20 +78,25 @@ def cut_of(copy: Copy) -> Iterator[tuple[str, int]]:
 
 def changed_cut(copy: Copy, cut: Sequence[tuple[str, int]], words: Sequence[str]) -> list[tuple[str, int]]:
     """A cut with the changes `PB000000012=3`, `PB000000012=26-0002`, `PB000000012=0` (not counted) or `now`; an OfficeError for others."""
-    found = dict(cut)
+    found, changed = dict(cut), set[str]()
     for word in words:
         sender, _, number = word.partition("=")
         rank = rank_of(number)
         if word == "now":
             found = dict(cut_of(copy))
-        elif rank is None or copy.line(sender) is None:
+        elif rank is None or (line := copy.line(sender)) is None:
             raise OfficeError(
                 f"--cut: {word!r} is no sender with a number, as PB000000012=3, nor `now`; or nothing of this sender has come"
             )
+        elif rank > line.front:
+            raise OfficeError(f"--cut: {sender} has all files up to {as_sent(line.front)} only: cut it there, or lower")
+        elif sender in changed:
+            raise OfficeError(f"--cut: {sender} is cut twice: name it once")
         elif rank == 0:
             found.pop(sender, None)
         else:
             found[sender] = rank
+        changed.add(sender)
     return sorted(found.items())
 
 

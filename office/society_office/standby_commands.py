@@ -8,7 +8,7 @@ import click
 
 from society_office import following, rebuilding
 from society_office.asking import Connections, access_by_netrc
-from society_office.command_words import COPY_HELP, PATH, PROGRAM_HELP, WRONG, noted
+from society_office.command_words import COPY_HELP, NUMBER, PATH, PROGRAM_HELP, WRONG, noted
 from society_office.comparing import Difference, compare, summary
 from society_office.comparing_answers import ALL_WORKS, compare_answers
 from society_office.copy import Copy, open_copy
@@ -92,7 +92,14 @@ def tell_differs(copy: pathlib.Path, other: str, works: int, **access: Any) -> N
 @click.option("--to", "address", required=True, metavar="URL", help="The office that gets it, as http://127.0.0.1:8080.")
 @click.option("--since-fronts", is_flag=True, help="Sends only files above its fronts, and returns that none of its pools has paid.")
 @click.option("--state", type=PATH, metavar="FILE", help="Keeps there until when it has all, and what came since, for `health --standby`.")
-@click.option("--behind", default=15.0, show_default=True, metavar="MINUTES", help="With --state: status 1 where it is behind for longer.")
+@click.option(
+    "--behind",
+    type=NUMBER,
+    default=15.0,
+    show_default=True,
+    metavar="MINUTES",
+    help="With --state: status 1 where it is behind for longer.",
+)
 @with_access
 def send_again(copy: pathlib.Path, address: str, since_fronts: bool, state: pathlib.Path | None, behind: float, **access: Any) -> None:
     """Sends all that a copy has of what was sent to another office: ends, files, returns, orders.

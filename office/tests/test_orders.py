@@ -60,6 +60,10 @@ def test_an_order_is_proposed(copy: pathlib.Path) -> None:
     earlier = run("propose", copy, "--amount", 1000, *cut)
     assert json.loads(earlier)["cut"] == [[quarter.ALPHA, 2], [quarter.BETA, 1], [quarter.GAMMA, 1], [quarter.EPSILON, 2]]
     assert "is no sender with a number" in run("propose", copy, "--amount", 1000, "--cut", "PB999999999=1", status=1)
+    for number in ("4", "26-0001", "9" * 40):
+        assert "has all files up to 3 only" in run("propose", copy, "--amount", 1000, "--cut", f"{quarter.ALPHA}={number}", status=1)
+    twice = ["--cut", f"{quarter.ALPHA}=2", "--cut", f"{quarter.ALPHA}=1"]
+    assert f"{quarter.ALPHA} is cut twice" in run("propose", copy, "--amount", 1000, *twice, status=1)
     with open_copy(copy) as opened:
         # The double was paid in the performing right only, so a pool of the mechanical right may pay it.
         found = propose(opened, 7, "MR", Wanted(), [])

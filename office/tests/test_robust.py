@@ -162,6 +162,27 @@ def test_two_commands_that_write_one_folder(copy: pathlib.Path, tmp_path: pathli
     assert made[0] == made[1] and len(made[0]) > 8
 
 
+@pytest.mark.parametrize(
+    "words, status, said",
+    [
+        (["file", "{}", "\udcff", 1], 1, r"'\udcff' is no sender of files"),
+        (["explain", "{}", "I00000000199", "--pool", 1, "--isrc", "\udcff"], 1, r"'\udcff' is no ISRC"),
+        (["statement", "{}", "I00000000199", "--since", 10**30], 2, "is not in the range"),
+        (["resend", "{}", "--to", "http://127.0.0.1:1", "--behind", "nan"], 2, "nan is no number"),
+        (["health", "--seconds", "inf"], 2, "inf is not in the range"),
+        (["health", "--hours", "nan"], 2, "nan is no number"),
+    ],
+)
+def test_words_that_name_nothing(copy: pathlib.Path, words: list[object], status: int, said: str) -> None:
+    # (told with status 2 to standard error, and not as what health finds wrong)
+    assert said in run(*(copy if it == "{}" else it for it in words), status=status)
+
+
+def test_a_folder_in_the_place_of_the_offices_file(copy: pathlib.Path, monkeypatch: pytest.MonkeyPatch) -> None:
+    monkeypatch.chdir(copy.parent)
+    assert "file" in run("health", "--office", f"http://127.0.0.1:{free_port()}", "--db", ".", status=2, out=True)
+
+
 @pytest.mark.parametrize("address", ["ftp://x", "http://", "http://x:99999", "http://x:y", "http://x/?a"])
 def test_what_is_no_address(address: str) -> None:
     with pytest.raises(OfficeError, match="is no address of an office"):
