@@ -48,9 +48,10 @@ class Commands(click.Group):
         except OfficeError as error:
             fail(str(error))
         except OSError as error:
+            if error.filename is None:
+                drop_output()
             # (a reader that has gone away, as head does, is no fault)
             if error.errno == errno.EPIPE:
-                drop_output()
                 sys.exit(WRONG)
             fail(f"{error.filename}: {error.strerror}" if error.filename else f"standard output: {error.strerror or error}")
 

@@ -39,8 +39,10 @@ def prepare_streams() -> None:
 
 
 def drop_output() -> None:
-    """What stands in standard output is not written any more."""
-    os.dup2(os.open(os.devnull, os.O_WRONLY), sys.stdout.fileno())
+    """What stands in standard output is not written any more, which Python would try once more when it ends."""
+    # (one that was closed has nothing)
+    with contextlib.suppress(io.UnsupportedOperation):
+        os.dup2(os.open(os.devnull, os.O_WRONLY), sys.stdout.fileno())
 
 
 def console(error: bool = False) -> Console:

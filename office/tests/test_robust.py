@@ -25,9 +25,9 @@ COMMAND = [sys.executable, str(ROOT / "office/society-office")]
 
 
 def shell(script: str, **extra: str) -> subprocess.CompletedProcess[str]:
-    """Runs a script whose `$it` is the command."""
+    """Runs a script whose `$it` is the command, with Python as it writes by itself."""
     words = ["bash", "-c", f"it={' '.join(COMMAND)!r}; {script}"]
-    return subprocess.run(words, capture_output=True, text=True, env={**os.environ, **extra}, check=False)
+    return subprocess.run(words, capture_output=True, text=True, env={**os.environ, "PYTHONUNBUFFERED": "", **extra}, check=False)
 
 
 @pytest.mark.parametrize(
