@@ -66,7 +66,7 @@ def kept(path: pathlib.Path) -> Following:
         # (what is no time can't be told as one)
         time.localtime(found.since)
         return found
-    except (OSError, ValueError, TypeError, OverflowError) as error:
+    except (OSError, ValueError, TypeError, OverflowError, RecursionError) as error:
         raise OfficeError(f"{path} is not what `resend --state` keeps: {error}") from error
 
 

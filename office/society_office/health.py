@@ -266,7 +266,7 @@ def kept_state(it: Looked) -> dict[str, Any]:
         fronts, sound = found["fronts"], found["sound"]
         if not isinstance(sound, dict) or not all(isinstance(front, int) for front in fronts.values()):
             raise TypeError("other values")
-    except (ValueError, LookupError, TypeError, AttributeError) as error:
+    except (ValueError, LookupError, TypeError, AttributeError, RecursionError) as error:
         raise OfficeError(f"{it.state} is not what this command keeps there: take it away") from error
     return {"fronts": fronts, "sound": sound}
 

@@ -56,7 +56,10 @@ def test_health(copy: pathlib.Path, tmp_path: pathlib.Path, program: str) -> Non
     assert "no answer from" in said and re.search("WRONG +sound", said)
 
 
-@pytest.mark.parametrize("kept", [b"", b"{", b"\xff", b"[]", b'{"fronts": [], "sound": {}}', b'{"fronts": {"A": "x"}, "sound": {}}'])
+OTHER_STATES = [b"", b"{", b"\xff", b"[]", b"[" * 100_000, b'{"fronts": [], "sound": {}}', b'{"fronts": {"A": "x"}, "sound": {}}']
+
+
+@pytest.mark.parametrize("kept", OTHER_STATES)
 def test_what_was_kept_and_can_not_be_read(copy: pathlib.Path, tmp_path: pathlib.Path, program: str, kept: bytes) -> None:
     port, state = free_port(), tmp_path / "state.json"
     state.write_bytes(kept)
