@@ -307,6 +307,14 @@ def test_the_program_of_a_dry_run(tmp_path: pathlib.Path, program: str) -> None:
     assert done.returncode == 2 and done.stderr.startswith("dryrun: ") and none in done.stderr
 
 
+@pytest.mark.parametrize("script, said", [("> /dev/full", "dryrun: [Errno 28] No space left on device\n"), ("| true", "")])
+def test_a_dry_run_whose_lines_go_nowhere(program: str, script: str, said: str) -> None:
+    words = f"'{ROOT}/examples/dryrun' '{ROOT}/examples/first.cwr' {script}; exit ${{PIPESTATUS[0]}}"
+    environment = {**os.environ, "PYTHONUNBUFFERED": "", "SOCIETY_PROGRAM": program}
+    done = subprocess.run(["bash", "-c", words], env=environment, capture_output=True, text=True, check=False)
+    assert (done.returncode, done.stderr) == (2, said)
+
+
 def test_why(copy: pathlib.Path) -> None:
     with open_copy(copy) as opened:
         told = {it.sender: story(opened, it.sender) for it in opened.lines()}
