@@ -15,6 +15,7 @@ from society_office.plays import BOM
 from society_office.program import Answer
 from society_office.records import text
 from society_office.return_faults import looks_like_return, return_faults
+from society_office.return_names import LAST_NUMBER
 from society_office.work_faults import CheckedWork, Fault, first_warnings, warned
 
 SENDER = re.compile(r"[0-9A-Z]{11}", re.ASCII)
@@ -136,7 +137,7 @@ def check_return(office: Asked, path: str, number: int, it: Sent) -> None:
     """Tries a return under the first number from this one on that is free."""
     it.label = it.name
     answer = put(office, f"{path}/{number}", it)
-    while answer is not None and answer.error == "reused":
+    while answer is not None and answer.error == "reused" and number + RETURN_STEP <= LAST_NUMBER:
         number += RETURN_STEP
         answer = put(office, f"{path}/{number}", it)
     if answer is None:

@@ -125,8 +125,11 @@ def test_another_program_that_answers(copy: pathlib.Path, tmp_path: pathlib.Path
         assert "26 sent: 0 new, 0 known, 26 refused" in run("resend", copy, "--to", address, status=1, out=True)
 
 
+MEMBERS = ["", ',"fault":"x","line":null', ',"error":"ended"', ',"error":"cut"', ',"error":"reused"', ',"state":"applied"']
+
+
 @pytest.mark.parametrize("status", [200, 204, 409, 422])
-@pytest.mark.parametrize("more", ["", ',"fault":"x","line":null', ',"error":"ended"', ',"error":"cut"', ',"state":"applied"'])
+@pytest.mark.parametrize("more", MEMBERS)
 def test_another_program_that_tells_a_front(tmp_path: pathlib.Path, monkeypatch: pytest.MonkeyPatch, status: int, more: str) -> None:
     (tmp_path / "it.cwr").write_bytes(FIRST)
     (tmp_path / "it.csv").write_text("isrc,plays,seconds\n")
