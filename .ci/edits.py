@@ -40,6 +40,8 @@ MONTH = 30 * 24 * 3600
 SEARCHED = re.compile(r"fn \w+::(\S+): [^\n]*?`search` did not prove ((?:`[^`\s]+`(?:, | and )?)+)")
 NOTED = re.compile(r"note: `([^`]+)` of (?:\./)?proofs/(\S+)/\w+\.antt must prove")
 FAILED = re.compile(r"(?:\./)?proofs/(\S+)/\w+\.antt:\d+:\d+: error: `([^`]+)`: (.*)")
+# Goals that no answer closes stand before the line of their function.
+UNPROVED = re.compile(r"note: src/(\S+)\.rt:\d+:\d+: it is not proved that .*?\(`([^`]+)`\)|fn \w+::(\S+): (?!proved)")
 # An error that says nothing of a clause: a proof names what the edit took away.
 BY_NAME = re.compile(r"has no field|is not in scope|has no `|was not admitted")
 # The goals that a line of an edit may name, by its word: those of what is promised, and those of what a call requires.
@@ -134,6 +136,14 @@ def open_goals(said):
         found.setdefault(function.replace("::", "/"), set()).update(re.findall(r"`([^`]+)`", goals))
     for goal, function in NOTED.findall(said):
         found.setdefault(function, set()).add(goal)
+    before = []
+    for file, goal, function in UNPROVED.findall(said):
+        if goal:
+            before.append((file, goal))
+        else:
+            own = function.replace("::", "/")
+            found.setdefault(own, set()).update(goal for file, goal in before if own.startswith(f"{file}/"))
+            before = []
     for function, goal, why in FAILED.findall(said):
         (by_name if BY_NAME.search(why) else found).setdefault(function, set()).add(goal)
     return found, by_name

@@ -15,10 +15,11 @@ PROVED = "fn small::sums::add: proved\n"
 OPEN = "fn small::sums::add: no proof: expected answers; `search` did not prove `returns-clause-sum`, `take-requires-some`; it calls none\n"
 NOTED = "note: `loop-at-init` of proofs/sums/add/Answers.antt must prove: 0 = 1\n"
 BY_NAME = "./proofs/sums/add/Answers.antt:2:3: error: `returns-clause-sum`: record `X` has no field `in-Some`\n"
+LEFT = "note: src/sums.rt:1:1: it is not proved that it holds (`returns-clause-sum`); a limit\nfn small::sums::add: not proved\n"
 FALSE_TERM = "./proofs/sums/add/Answers.antt:2:3: error: `returns-clause-sum`: expected 1, found 0\n"
 RATTLE = """#!/bin/sh
 echo "$@" >> "${0%/*}/../words"
-cat src/*
+cat src/* | sed 's/ END /\\n/g'
 exit 1
 """
 
@@ -47,8 +48,8 @@ def edits(tmp_path: pathlib.Path, monkeypatch: pytest.MonkeyPatch) -> ModuleType
 
 
 def edit(folder: pathlib.Path, name: str, new: str, refused: str, file: str = "sums", old: str = "", word: str = "refused") -> None:
-    """Writes an edit of a source."""
-    text = f"file: src/{file}.rt\nold: {old or file[:-1]}\nnew: {new.strip()}\n"
+    """Writes an edit of a source, with END for the ends of lines within its new text."""
+    text = f"file: src/{file}.rt\nold: {old or file[:-1]}\nnew: {new.strip().replace(chr(10), ' END ')}\n"
     (folder / f"crates/small/must-fail/{name}.edit").write_text(text + "".join(f"{word}: {it}\n" for it in refused.split(" and ") if it))
 
 
@@ -72,6 +73,9 @@ def told(module: ModuleType, folder: pathlib.Path, capsys: pytest.CaptureFixture
         (OPEN, "returns-clause-sum", True),
         (NOTED, "loop-at-init", True),
         (FALSE_TERM, "returns-clause-sum", True),
+        (BY_NAME + LEFT, "returns-clause-sum", True),
+        (LEFT.replace("src/sums", "src/takes"), "returns-clause-sum", False),
+        (LEFT.replace("fn small::sums::add", "fn small::sums::take"), "returns-clause-sum", False),
         (PROVED, "returns-clause-sum", False),
         (OPEN, "returns-clause-other", False),
         (BY_NAME, "returns-clause-sum", False),
