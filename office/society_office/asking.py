@@ -19,6 +19,8 @@ from society_office.program import Answer, Office, parts_of
 AGAIN = (502, 503, 504)
 # Seconds between one time and the next.
 FIRST_PAUSE, LONGEST_PAUSE = 0.05, 5.0
+# So many seconds an answer is waited for at least, though hardly any are left in which it would be asked for again.
+LEAST_ANSWER = 5.0
 # After so many requests a connection is given up, since an office without a proxy serves nobody else meanwhile.
 ON_ONE_CONNECTION = 500
 # So many requests of a connection are at hand at once.
@@ -36,10 +38,13 @@ class Request:
 
 
 class PatientOffice:
-    """An office that is asked again, for some seconds, where there was no answer or none that counts."""
+    """An office that is asked again, for some seconds, where there was no answer or none that counts.
 
-    def __init__(self, office: Office, seconds: float) -> None:
-        self.office, self.seconds, self.asked, self.is_stopped = office, seconds, 0, False
+    One that hangs is waited for no longer than that, and at least for `least` seconds.
+    """
+
+    def __init__(self, office: Office, seconds: float, least: float = LEAST_ANSWER) -> None:
+        self.office, self.seconds, self.least, self.asked, self.is_stopped = office, seconds, least, 0, False
 
     def ask(self, it: Request) -> Answer:
         """The answer to a request; an OfficeError where none came in time, or the user is refused."""
@@ -47,7 +52,7 @@ class PatientOffice:
             self.office.close()
         self.asked += 1
         until, pause = time.monotonic() + self.seconds, FIRST_PAUSE
-        while isinstance(said := self.once(it), str):
+        while isinstance(said := self.once(it, until), str):
             if self.is_stopped or time.monotonic() + pause > until:
                 raise OfficeError(f"{said}. What was sent stays: run it again")
             time.sleep(pause)
@@ -56,8 +61,9 @@ class PatientOffice:
             raise OfficeError(f"{self.office.address}: {NOT_TAKEN[said.status]} (--netrc)")
         return said
 
-    def once(self, it: Request) -> Answer | str:
+    def once(self, it: Request, until: float) -> Answer | str:
         """The answer, or why it is to be asked again."""
+        self.office.wait_for(max(until - time.monotonic(), self.least))
         try:
             answer = self.office.ask("GET" if it.body is None else "PUT", f"/v1/{it.path}", it.body)
         except OfficeError as error:
@@ -72,13 +78,13 @@ class PatientOffice:
 class Connections:
     """A few connections to one office, over which many requests go."""
 
-    def __init__(self, address: str, seconds: float, count: int = 0, **access: Any) -> None:
+    def __init__(self, address: str, seconds: float, count: int = 0, least: float = LEAST_ANSWER, **access: Any) -> None:
         """Without a count it is one to an office itself, which serves one at a time, and a few to a proxy (https)."""
         is_proxy = address.startswith("https:")
         self.address, self.count = address, count or (FEW if is_proxy else 1)
         # (an office itself would wait for the next request of one connection, while the others wait for it)
         self.keeps = is_proxy or self.count == 1
-        self.offices = [PatientOffice(Office(address, **access), seconds) for _ in range(self.count)]
+        self.offices = [PatientOffice(Office(address, **access), seconds, least) for _ in range(self.count)]
         self.free = queue.SimpleQueue[PatientOffice]()
         for it in self.offices:
             self.free.put(it)

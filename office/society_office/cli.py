@@ -171,6 +171,14 @@ def asked_office(
 @click.option("--user", default="", help="With --office: the user. The password is asked for, or stands in $SOCIETY_PASSWORD.")
 @click.option("--reporter", metavar="NAME", help="The station whose returns are tried (default: that of a user station-NAME).")
 @click.option("--authority", type=PATH, metavar="FILE", help="With --office: the certificate to trust, where it is no public one.")
+@click.option(
+    "--wait",
+    type=click.IntRange(1, 86_400),
+    default=60,
+    show_default=True,
+    metavar="SECONDS",
+    help="With --office: an answer is waited for no longer.",
+)
 @click.option("--copy", type=PATH, help="Check against what this copy has registered: the program serves a throw-away copy of it.")
 @click.option("--program", metavar="FILE", help=PROGRAM_HELP)
 @click.option("--society", default=900, show_default=True, help="Number of the society; of a copy, its own.")
@@ -184,6 +192,7 @@ def check(
     user: str,
     reporter: str | None,
     authority: pathlib.Path | None,
+    wait: int,
     copy: pathlib.Path | None,
     program: str | None,
     society: int,
@@ -201,7 +210,7 @@ def check(
     """
     if address and copy:
         raise click.UsageError("give --office or --copy, not both")
-    access: dict[str, Any] = {"user": user, "authority": str(authority) if authority else None}
+    access: dict[str, Any] = {"user": user, "authority": str(authority) if authority else None, "seconds": wait}
     if address and user:
         access["password"] = os.environ.get("SOCIETY_PASSWORD") or click.prompt("Password", hide_input=True, err=True)
     read = checking.read_files(files)

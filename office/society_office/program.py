@@ -162,6 +162,12 @@ class Office:
             self.connection.close()
             raise OfficeError(f"no answer from {self.address}: {error}") from error
 
+    def wait_for(self, seconds: float) -> None:
+        """From now on an office that says nothing for so many seconds gives no answer."""
+        self.connection.timeout = seconds
+        if self.connection.sock is not None:
+            self.connection.sock.settimeout(seconds)
+
     def break_off(self) -> None:
         """Has the request that another thread waits for, or is about to send, end without an answer."""
         self.is_broken_off = True

@@ -6,7 +6,7 @@ from collections.abc import Callable, Iterator
 from society_office.asking import Connections
 from society_office.comparing import Difference, compare, summary
 from society_office.copy import TABLES, Copy, open_copy
-from society_office.program import trial_of, trial_office
+from society_office.program import ANSWER, trial_of, trial_office
 from society_office.resending import Tally, resend
 
 
@@ -25,7 +25,7 @@ def as_newest(copy: Copy, program: str) -> Iterator[Copy]:
 def rebuild(copy: Copy, program: str, tell: Callable[[], None]) -> tuple[Tally, list[Difference], str]:
     """What became of what was sent, how the rebuilt office differs from the copy, and how much it holds."""
     with trial_office(program, copy.office_words) as trial:
-        office = Connections(trial.office.address, 0)
+        office = Connections(trial.office.address, 0, least=ANSWER)
         tally = resend(copy, office, False, tell)
         office.close()
         trial.end()

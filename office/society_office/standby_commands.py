@@ -13,7 +13,7 @@ from society_office.comparing import Difference, compare, summary
 from society_office.comparing_answers import ALL_WORKS, compare_answers
 from society_office.copy import Copy, open_copy
 from society_office.errors import OfficeError
-from society_office.program import find_program, open_whole, trial_of
+from society_office.program import ANSWER, find_program, open_whole, trial_of
 from society_office.resending import Tally, how_many, resend
 from society_office.terminal import counting, doing, say
 
@@ -27,7 +27,7 @@ ACCESS = (
         type=click.IntRange(0, 86_400),
         default=60,
         metavar="SECONDS",
-        help="So long it is asked again where there is no answer (default: 60).",
+        help="So long an answer is waited for, and asked for again where there is none (default: 60).",
     ),
 )
 
@@ -76,7 +76,7 @@ def tell_differs(copy: pathlib.Path, other: str, works: int, **access: Any) -> N
     names = (str(copy), other)
     if other.startswith(("http://", "https://")):
         with open_whole(copy) as opened, trial_of(find_program(), noted(opened)) as trial, doing(f"asking {other}"):
-            count, found = compare_answers(opened, Connections(trial.office.address, 0), connected(other, **access), works)
+            count, found = compare_answers(opened, Connections(trial.office.address, 0, least=ANSWER), connected(other, **access), works)
             same = f"{copy} and {other} give the same answers to {count:,} questions"
     else:
         with open_whole(copy) as opened, open_whole(pathlib.Path(other)) as second, doing("comparing"):

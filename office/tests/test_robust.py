@@ -3,6 +3,7 @@
 import os
 import pathlib
 import signal
+import socket
 import subprocess
 import sys
 import time
@@ -146,6 +147,16 @@ def test_an_office_that_does_not_answer_is_all_that_is_told(copy: pathlib.Path, 
     done = shell(f"$it compare {copy} {address} --wait 0", SOCIETY_PROGRAM=program)
     assert done.returncode == 1 and done.stdout == ""
     assert [it.partition(": [")[0] for it in done.stderr.splitlines()] == [f"society-office: no answer from {address}"]
+
+
+@pytest.mark.parametrize("words", ["resend {0} --wait 0 --to", "compare {0} --wait 5", "check {1} --wait 1 --office"])
+def test_an_office_that_hangs_is_waited_for_as_long_as_one_says(copy: pathlib.Path, program: str, words: str) -> None:
+    # (the system takes connections for it)
+    with socket.create_server(("127.0.0.1", 0)) as halted:
+        address = f"http://127.0.0.1:{halted.getsockname()[1]}"
+        done = shell(f"timeout 30 $it {words.format(copy, ROOT / 'examples/first.cwr')} {address}", SOCIETY_PROGRAM=program)
+    assert (done.returncode, done.stdout) == (1, "")
+    assert done.stderr.startswith(f"society-office: no answer from {address}: timed out") and done.stderr.count("\n") == 1
 
 
 @pytest.mark.parametrize("words", [["site"], ["statement", "--all"]])
