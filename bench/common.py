@@ -54,8 +54,15 @@ def parser(text, program=program_file):
 
 
 def add_cases(options, names):
-    """Adds the argument that chooses cases by a part of their names, and lists the names in the help."""
-    options.add_argument("case", nargs="?", default="", help="run only the cases whose name has this in it")
+    """Adds the argument that chooses cases by a part of their names, and lists the names in the help; a word that none has is refused."""
+    names = list(names)
+
+    def of_a_case(word):
+        if any(word in it for it in names):
+            return word
+        raise argparse.ArgumentTypeError(f"no case has {word!r} in its name")
+
+    options.add_argument("case", nargs="?", default="", type=of_a_case, help="run only the cases whose name has this in it")
     options.epilog = "cases:\n" + "\n".join(f"  {it}" for it in names)
 
 

@@ -8,7 +8,6 @@ return of 10,000 rows, a pool over all works and that return, a pool over return
 tables, and the start after that. On a disk each put waits for two flushes; in a folder in memory (`--folder`) it does not.
 """
 import pathlib
-import sys
 import tempfile
 import time
 
@@ -149,10 +148,7 @@ def main():
     options.add_argument("--folder", type=pathlib.Path, help="where the databases are made (default: the system's folder for such files)")
     common.add_cases(options, CASES)
     options = options.parse_args()
-    names = [it for it in CASES if options.case in it]
-    if not names:
-        sys.exit(f"no case has {options.case!r} in its name")
-    for name in names:
+    for name in (it for it in CASES if options.case in it):
         print(name, flush=True)
         with tempfile.TemporaryDirectory(dir=options.folder) as folder:
             measure(options.program, pathlib.Path(folder) / "office.db", *CASES[name], options.steps)

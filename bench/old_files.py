@@ -107,7 +107,10 @@ def try_sample(program, folder, sample):
 
 def try_samples(program, samples):
     failed = False
-    for sample in sorted(samples.glob("*.layout*.db")):
+    found = sorted(samples.glob("*.layout*.db"))
+    if not found:
+        sys.exit(f"no sample (*.layout*.db) in {samples}")
+    for sample in found:
         with tempfile.TemporaryDirectory() as folder:
             wrong = try_sample(program, pathlib.Path(folder), sample)
         print(f"{sample.name}: {', '.join(wrong) or 'ok'}")
@@ -132,6 +135,8 @@ def main():
     options.add_argument("samples", nargs="?", type=pathlib.Path, help="a folder of samples")
     options.add_argument("--measure", type=int, metavar="COUNT", help="how many transmissions the file has")
     words = options.parse_args()
+    if not words.measure and not words.samples:
+        options.error("name a folder of samples, or --measure COUNT")
     if words.measure:
         measure(words.program, words.measure)
     sys.exit(words.samples is not None and try_samples(words.program, words.samples))

@@ -9,6 +9,7 @@ blanks at the ends of lines and the shell's own lines on jobs; a block without a
 left running is reported and stopped. Ends with status 1 where anything differs, or where a package that the blocks use is missing, which
 is named before any is pasted.
 """
+import argparse
 import ctypes
 import dataclasses
 import difflib
@@ -249,10 +250,17 @@ def missing(names):
                 yield f"python3-{it}"
 
 
+def document(name):
+    """The name of a document, from the top of the checkout."""
+    if not (ROOT / name).is_file():
+        raise argparse.ArgumentTypeError(f"there is no document {name} in {ROOT}")
+    return name
+
+
 def main():
     options = common.parser(__doc__)
     options.add_argument("--seconds", type=float, default=60, help="most seconds that a block may take (default: 60)")
-    options.add_argument("documents", nargs="*", default=DOCUMENTS, help=f"from the top of the checkout (default: {' '.join(DOCUMENTS)})")
+    options.add_argument("documents", nargs="*", type=document, default=DOCUMENTS, help=f"from the top of the checkout (default: {' '.join(DOCUMENTS)})")
     options = options.parse_args()
     if lacking := list(missing(options.documents)):
         sys.exit(f"missing, and the documents use it: apt-get install {' '.join(lacking)}")

@@ -1,9 +1,10 @@
-"""The measurement of a large office, of a small one."""
+"""The measurement of a large office, of a small one; and that no script of bench/ passes where it has tried nothing."""
 
 import os
 import subprocess
 import sys
 
+import pytest
 from conftest import ROOT
 
 MEASURED = ["statement", "explain", "balances", "parties", "unclaimed", "propose", "why", "site", "rebuild", "compare"]
@@ -17,3 +18,22 @@ def test_the_measurement_runs(program: str) -> None:
     assert lines[0].startswith("900 works, 7 pools: ") and [it for it in MEASURED if not any(line.startswith(it) for line in lines)] == []
     assert all(" s of processor, " in it and it.endswith("]") for it in lines[1:])
     assert "statements in " in lines[-1] and "all equal to the balances" in lines[-1]
+
+
+@pytest.mark.parametrize(
+    "words, said",
+    [
+        (["backup_trials", "zzz"], "argument case: no case has 'zzz' in its name"),
+        (["edge", "zzz"], "argument case: no case has 'zzz' in its name"),
+        (["growth", "zzz"], "argument case: no case has 'zzz' in its name"),
+        (["hostile_bodies", "zzz"], "argument case: no case has 'zzz' in its name"),
+        (["table_times", "zzz"], "argument case: no case has 'zzz' in its name"),
+        (["paste", "docs/NONE.md"], "there is no document docs/NONE.md in "),
+        (["old_files"], "name a folder of samples, or --measure COUNT"),
+        (["old_files", "/dev"], "no sample (*.layout*.db) in /dev"),
+    ],
+)
+def test_a_script_that_would_try_nothing_fails(words: list[str], said: str, program: str) -> None:
+    command = [sys.executable, "-B", ROOT / f"bench/{words[0]}.py", "--program", program, *words[1:]]
+    done = subprocess.run(command, capture_output=True, text=True, check=False)
+    assert done.returncode in (1, 2) and done.stdout == "" and said in done.stderr.splitlines()[-1], done.stderr
