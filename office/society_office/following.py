@@ -49,7 +49,8 @@ class Following:
             self.since, self.has = copy.taken, held_by(copy)
 
     def fell_behind(self, copy: Copy) -> None:
-        """Not all of a copy could be sent to it."""
+        """Not all of a copy could be sent to it. Where the clock was set back since, it counts from now on."""
+        self.since = min(self.since, time.time())
         self.lacks = come_since(self.has, held_by(copy)) or "nothing"
 
     def keep(self, path: pathlib.Path) -> None:

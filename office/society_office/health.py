@@ -17,7 +17,7 @@ from typing import Any
 
 from society_office import following
 from society_office.book_files import fault_of_files, log_of, offices, office_words
-from society_office.copy import open_copy
+from society_office.copy import beside, open_copy
 from society_office.errors import OfficeError
 from society_office.numbering import as_sent
 from society_office.pages import write_text
@@ -137,10 +137,20 @@ def look_at_file(it: Looked) -> Finding:
     assert it.database is not None
     if not it.database.exists():
         return Finding("file", WRONG, f"there is no file {it.database}", 1, "faults")
-    fault = fault_of_files(it.database)
+    fault = fault_of_files(it.database) or fault_of_next_start(it.database)
     return Finding(
         "file", WRONG if fault else GOOD, fault or f"{it.database} is what the office writes, and its log is whole", bool(fault), "faults"
     )
+
+
+def fault_of_next_start(database: pathlib.Path) -> str:
+    """Why the next start is refused (`society: database store`), in words, though the office runs; the empty text where nothing is seen."""
+    journal, end = beside(database, "-journal"), ", and the next start is refused"
+    if journal.exists() and journal.stat().st_size:
+        return f"{journal} stands there, of another program that broke off a write{end}: move it away"
+    if database.stat().st_nlink > 1:
+        return f"{database} has a second name (a hard link){end}: take that one away"
+    return ""
 
 
 def memory_needed(it: Looked) -> int:
@@ -215,6 +225,9 @@ def look_at_backup(it: Looked, limits: Limits) -> Finding:
     assert it.backups is not None
     path = newest(it.backups)
     hours = (time.time() - path.stat().st_mtime) / HOUR
+    if hours < -1:
+        words = f"the newest backup, {path.name}, is of a time {-hours:.1f} hours from now: the clock was wrong; `touch` it or take it away"
+        return Finding("backup", WARNING, words, hours, "hours")
     return Finding(
         "backup", judged(hours, limits.backup, True), f"the newest backup, {path.name}, is {hours:.1f} hours old", hours, "hours"
     )

@@ -65,6 +65,22 @@ def test_files_that_the_office_writes(served: Served) -> None:
     assert f"does not write {database}-wal" in findings(words)["file"][1]
 
 
+def test_what_the_next_start_is_refused_for(served: Served) -> None:
+    database, words = served
+    second, journal = database.with_name("second.db"), database.with_name("office.db-journal")
+    second.hardlink_to(database)
+    assert findings(words)["file"] == (
+        "WRONG",
+        f"{database} has a second name (a hard link), and the next start is refused: take that one away",
+    )
+    second.unlink()
+    journal.touch()
+    assert findings(words)["file"][0] == "good"
+    journal.write_bytes(b"x")
+    state, said = findings(words)["file"]
+    assert state == "WRONG" and f"{journal} stands there" in said and "and the next start is refused: move it away" in said
+
+
 def test_a_link_to_the_file(served: Served, tmp_path: pathlib.Path) -> None:
     database, words = served
     link = tmp_path / "elsewhere/link.db"

@@ -15,7 +15,8 @@ from collections.abc import Iterator
 import pytest
 import quarter
 from conftest import running
-from society_office import health
+from society_office import following, health
+from society_office.copy import open_copy
 from society_office.health import GOOD, WARNING, WRONG, Limits, Looked
 from society_office.page_sums import changed
 from society_office.program import free_port
@@ -67,6 +68,18 @@ def test_what_was_kept_and_can_not_be_read(copy: pathlib.Path, tmp_path: pathlib
         said = run("health", "--office", f"http://127.0.0.1:{port}", "--seconds", "60", "--state", state, status=2, out=True)
     assert "state.json is not what this command keeps there: take it away" in said and "good   answer" in said
     assert state.read_bytes() == kept and list(tmp_path.glob(".state*")) == []
+
+
+def test_a_clock_that_has_gone_back(copy: pathlib.Path) -> None:
+    looked = Looked("", backups=copy.parent)
+    for hours, state in (-0.5, GOOD), (-2, WARNING), (31, WARNING), (29, GOOD):
+        os.utime(copy, (time.time() - hours * HOUR,) * 2)
+        found = health.look_at_backup(looked, Limits())
+        assert found.state == state and ("is of a time 2.0 hours from now" in found.words) == (hours == -2), found
+    with open_copy(copy) as opened:
+        follower = following.Following("http://x", time.time() + 86_400)
+        follower.fell_behind(opened)
+    assert follower.since <= time.time()
 
 
 def test_a_disk_that_is_full_hides_nothing(tmp_path: pathlib.Path) -> None:
