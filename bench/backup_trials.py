@@ -352,7 +352,7 @@ def strangers_and_wrong_places(office):
     failed("no folder", office.backed_up("--to", office.folder / "file"), "could not be made")
     failed("a folder that can't be written", office.backed_up("--to", "/proc/self"), "can't be written")
     failed("no group", office.backed_up("--group", "no-such-group"), "no group")
-    failed("no program", office.backed_up("--program", "/none"), "not sound")
+    failed("no program", office.backed_up("--program", "/none"), "there is no program")
     office.stop()
     with open(office.database, "rb"):
         failed("a process that is no office", office.backed_up(), "is no office")
