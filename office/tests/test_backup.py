@@ -1,4 +1,4 @@
-"""A copy for a group, which is placed where its members may read it."""
+"""Copies of an office's file and their way back: for a group, by odd names, in the place of what is no file, of another office."""
 
 import contextlib
 import grp
@@ -6,6 +6,7 @@ import http.server
 import os
 import pathlib
 import shutil
+import signal
 import subprocess
 import sys
 import tempfile
@@ -189,3 +190,120 @@ def test_a_restore_without_a_program(copy: pathlib.Path, tmp_path: pathlib.Path)
     words = [RESTORE, "--from", copy, "--db", tmp_path / "office.db", "--service", "none", "--program", tmp_path / "none"]
     done = subprocess.run(words, capture_output=True, text=True, check=False)
     assert (done.returncode, done.stderr) == (1, f"restore: FAILED: there is no program {tmp_path / 'none'}\n")
+
+
+def restored(backup: object, database: object, program: str, cwd: pathlib.Path | None = None) -> subprocess.CompletedProcess[str]:
+    words = [RESTORE, "--from", backup, "--db", database, "--service", "none", "--program", program]
+    return subprocess.run([str(it) for it in words], cwd=cwd, capture_output=True, text=True, check=False)
+
+
+def everything(folder: pathlib.Path) -> dict[pathlib.Path, bytes]:
+    return {it: it.read_bytes() if it.is_file() else b"" for it in folder.rglob("*")}
+
+
+def test_names_that_begin_with_a_dash_or_have_a_line_end(copy: pathlib.Path, tmp_path: pathlib.Path, program: str) -> None:
+    copy.rename(tmp_path / "--help")
+    for folder in "-to", "new\nline":
+        words = [BACKUP, "--db", "--help", "--to", folder, "--program", program]
+        done = subprocess.run(words, cwd=tmp_path, capture_output=True, text=True, check=False)
+        assert (done.returncode, done.stderr) == (0, "") and done.stdout.endswith("; 1 kept\n")
+    done = restored("--help", "-x.db", program, tmp_path)
+    assert (done.returncode, done.stderr) == (0, "") and (tmp_path / "-x.db").read_bytes() == (tmp_path / "--help").read_bytes()
+
+
+def test_folders_whose_names_the_program_does_not_read(copy: pathlib.Path, tmp_path: pathlib.Path, program: str) -> None:
+    odd = pathlib.Path(os.fsdecode(bytes(tmp_path) + b"/\xff"))
+    for name, said in (odd, "is not UTF-8, and the program reads no other"), (tmp_path / "\xfc", ""):
+        name.mkdir()
+        words = [BACKUP, "--db", copy, "--to", name, "--program", program]
+        for script in words, [RESTORE, "--from", copy, "--db", name / "office.db", "--service", "none", "--program", program]:
+            done = subprocess.run(script, env={"PATH": os.environ["PATH"], "LC_ALL": "C"}, capture_output=True, check=False)
+            assert done.returncode == bool(said) and said in done.stderr.decode(errors="replace")
+
+
+@pytest.mark.parametrize("name", ["", "office.db-wal", "office.db-shm", "office.db-journal"])
+def test_what_is_no_file_is_not_replaced(copy: pathlib.Path, tmp_path: pathlib.Path, program: str, name: str) -> None:
+    home = tmp_path / "home"
+    home.mkdir()
+    database = pathlib.Path(shutil.copy(copy, home / "office.db"))
+    if name:
+        (home / name).mkdir()
+    before = everything(home)
+    done = restored(copy, database if name else home, program)
+    assert (done.returncode, done.stderr) == (1, f"restore: FAILED: {home / name if name else home} is no file; nothing was changed\n")
+    assert everything(home) == before and {it.name for it in tmp_path.iterdir()} == {"home", "copy.db"}
+    if name == "office.db-wal":
+        done = backed_up(database, tmp_path, program)
+        assert (done.returncode, done.stderr) == (1, f"backup: FAILED: {home / name} is no file\n")
+    if name:
+        (home / name).rmdir()
+        done = restored(copy, home / name, program)
+        assert done.returncode == 1 and "names what stands beside a database; nothing was changed" in done.stderr
+
+
+@pytest.mark.parametrize("is_young", [True, False])
+def test_the_copy_of_another_office(copy: pathlib.Path, tmp_path: pathlib.Path, program: str, is_young: bool) -> None:
+    home = tmp_path / "home"
+    home.mkdir()
+    words = ["--db", home / "office.db", "--port", str(free_port()), "--connections", "1", *OFFICE[:-1], "OTHER"]
+    with subprocess.Popen([program, "serve", *words], stdout=subprocess.PIPE) as process:
+        assert process.stdout and process.stdout.readline() == b"listening\n"
+        # (killed, a young office has all in its log)
+        process.kill()
+    if not is_young:
+        assert backed_up(home / "office.db", tmp_path, program).returncode == 0
+        shutil.copy(next((tmp_path / "backups").glob("*.db")), home / "office.db")
+        (home / "office.db-wal").unlink()
+    before = everything(home)
+    done = restored(copy, home / "office.db", program)
+    said = "is of another office (--society 900 --territory 40 --name=EXAMPLE SOCIETY) than"
+    assert done.returncode == 1 and said in done.stderr and "--name=OTHER): move that away first" in done.stderr
+    assert everything(home) == before
+    (home / "office.db").unlink()
+    (home / "office.db-wal").unlink(missing_ok=True)
+    assert restored(copy, home / "office.db", program).returncode == 0
+
+
+def test_an_outcome_that_can_not_be_said(copy: pathlib.Path, tmp_path: pathlib.Path, program: str) -> None:
+    (tmp_path / "home").mkdir()
+    backup = [BACKUP, "--db", copy, "--to", tmp_path / "backups", "--program", program]
+    restore = [RESTORE, "--from", copy, "--db", tmp_path / "home/office.db", "--service", "none", "--program", program]
+    for words, said in (backup, "is there and sound"), (restore, "is in place; nothing was there before"):
+        with open("/dev/full", "wb") as full:
+            done = subprocess.run(words, stdout=full, stderr=subprocess.PIPE, text=True, check=False)
+        assert done.returncode == 1 and f"{said}, but this could not be said on standard output" in done.stderr
+        assert done.stderr.count("\n") == 1
+
+
+def test_a_program_that_fails_meanwhile(copy: pathlib.Path, tmp_path: pathlib.Path, program: str) -> None:
+    tools, home = tmp_path / "tools", tmp_path / "home"
+    for it in tools, home:
+        it.mkdir()
+    (tools / "sync").write_text("#!/bin/sh\necho sync: Input/output error >&2\nexit 1\n")
+    (tools / "sync").chmod(0o755)
+    env = {**os.environ, "PATH": f"{tools}:{os.environ['PATH']}"}
+    shutil.copy(copy, home / "office.db")
+    backup = [BACKUP, "--db", copy, "--to", tmp_path / "backups", "--program", program]
+    restore = [RESTORE, "--from", copy, "--db", home / "office.db", "--service", "none", "--program", program]
+    for name, words, last in ("backup", backup, "no new copy is there"), ("restore", restore, "nothing was changed"):
+        done = subprocess.run(words, env=env, capture_output=True, text=True, check=False)
+        assert (done.returncode, done.stderr) == (1, f"sync: Input/output error\n{name}: FAILED: why is said above; {last}\n")
+    assert [it.name for it in home.iterdir()] == ["office.db"] and not list((tmp_path / "backups").glob("office-*"))
+
+
+def test_a_halted_office_is_not_waited_for_for_ever(copy: pathlib.Path, tmp_path: pathlib.Path, program: str) -> None:
+    tools = tmp_path / "tools"
+    (tmp_path / "debian/bin").mkdir(parents=True)
+    (tmp_path / "office").symlink_to(ROOT / "office")
+    script = tmp_path / "debian/bin/society-backup"
+    script.write_text(BACKUP.read_text().replace("LONGEST=60\n", "LONGEST=2\n"))
+    script.chmod(0o755)
+    tools.mkdir()
+    # (as where it takes long to look through many processes)
+    (tools / "sleep").write_text("#!/bin/sh\nexec /bin/sleep 2\n")
+    (tools / "sleep").chmod(0o755)
+    with running(program, copy, free_port(), "--existing", "--connections", "1") as office:
+        office.send_signal(signal.SIGSTOP)
+        words, path = [script, "--db", copy, "--to", tmp_path / "backups", "--program", program], f"{tools}:{os.environ['PATH']}"
+        done = subprocess.run(words, env={**os.environ, "PATH": path}, timeout=30, capture_output=True, text=True, check=False)
+    assert (done.returncode, done.stderr) == (0, "")
