@@ -12,6 +12,7 @@ from typing import Any, TextIO
 
 import jinja2
 
+from society_office.book_log import DATABASE, MAGIC
 from society_office.errors import OfficeError
 from society_office.numbering import as_sent, counted
 
@@ -81,15 +82,26 @@ def write_text(target: pathlib.Path, text: str) -> None:
     write_bytes(target, text.encode())
 
 
+def begins_as_a_book(path: pathlib.Path) -> bool:
+    """Whether a file begins as a database does, or as the log of one."""
+    start = b""
+    with contextlib.suppress(PermissionError), path.open("rb") as file:
+        start = file.read(len(DATABASE))
+    return start == DATABASE or int.from_bytes(start[:4], "big") & ~1 == MAGIC
+
+
 @contextlib.contextmanager
 def drafted(target: pathlib.Path) -> Iterator[pathlib.Path]:
     """Where to write what takes the place of a file in one step at the end, with its mode; an OfficeError where it can't be written.
 
-    A link stays, and the file that it leads to is replaced. What is no file, as a device or a pipe, is written itself.
+    A link stays, and the file that it leads to is replaced, but no database and no log of one. What is no file, as a device or a pipe, is
+    written itself.
     """
     place = pathlib.Path(os.path.realpath(target))
     draft = place.with_name(f".{place.name}.new")
     try:
+        if place.is_file() and begins_as_a_book(place):
+            raise OfficeError(f"{target} is a database, or the log of one, and would be replaced: name another file")
         target.parent.mkdir(parents=True, exist_ok=True)
         if target.exists() and not target.is_file():
             yield target

@@ -13,7 +13,7 @@ import pytest
 import quarter
 from conftest import ROOT, made, running
 from office_value import File, Step
-from society_office import pages, signals
+from society_office import book_log, pages, signals
 from society_office.copy import open_copy
 from society_office.errors import OfficeError
 from society_office.page_sums import changed
@@ -140,6 +140,18 @@ def test_pages_take_the_place_of_nothing_but_a_folder(copy: pathlib.Path, place:
     before = copy.read_bytes()
     said = run("site", copy, "--into", copy.parent / place, status=1)
     assert "is no folder of pages" in said and copy.read_bytes() == before and list(copy.parent.iterdir()) == [copy]
+
+
+@pytest.mark.parametrize("words", ["statement {} I00000000199", "parties {}", "statement {} I00000000199 --format csv"])
+def test_nothing_is_written_over_a_copy(copy: pathlib.Path, words: str) -> None:
+    log, link = copy.with_name("other.db-wal"), copy.with_name("link")
+    book_log.write_log(copy, log)
+    link.symlink_to(copy)
+    for output in copy, link, log:
+        before = output.read_bytes()
+        said = run(*words.format(copy).split(), "--output", output, status=1)
+        assert "is a database, or the log of one, and would be replaced: name another file" in said and output.read_bytes() == before
+    assert len(list(copy.parent.iterdir())) == 3
 
 
 def test_an_office_that_does_not_answer_is_all_that_is_told(copy: pathlib.Path, program: str) -> None:
