@@ -364,7 +364,7 @@ def old_ones(office):
     office.send(1)
     office.copies.mkdir()
     for age in 1, 6, 7, 8, 40:
-        path = office.copies / f"office-{age}.db"
+        path = office.copies / f"office-2026-01-{age:02}-023000.db"
         path.touch()
         os.utime(path, (time.time() - age * 86_400 - 600,) * 2)
     (office.copies / "mine.db").touch()
@@ -372,7 +372,7 @@ def old_ones(office):
     check("a backup", office.backed_up("--days", "7")[0], 0)
     made = office.newest().name
     check("its time is that of what it holds", abs(office.newest().stat().st_mtime - time.time()) < 60)
-    check("what is kept", sorted(it.name for it in office.copies.glob("*.db")), sorted([made, "office-1.db", "office-6.db", "mine.db"]))
+    check("what is kept", sorted(it.name for it in office.copies.glob("*.db")), sorted([made, "office-2026-01-01-023000.db", "office-2026-01-06-023000.db", "mine.db"]))
     for it in office.copies.glob("office-*.db"):
         os.utime(it, (time.time() - 40 * 86_400 - (it.name == made),) * 2)
     time.sleep(1.1)

@@ -307,3 +307,28 @@ def test_a_halted_office_is_not_waited_for_for_ever(copy: pathlib.Path, tmp_path
         words, path = [script, "--db", copy, "--to", tmp_path / "backups", "--program", program], f"{tools}:{os.environ['PATH']}"
         done = subprocess.run(words, env={**os.environ, "PATH": path}, timeout=30, capture_output=True, text=True, check=False)
     assert (done.returncode, done.stderr) == (0, "")
+
+
+def test_what_is_no_copy_is_not_taken_away(copy: pathlib.Path, tmp_path: pathlib.Path, program: str) -> None:
+    folder = tmp_path / "backups"
+    folder.mkdir()
+    others = {folder / it for it in ("office-901.db", "office-2.db", "office-2026-01-06-0230000.db", "office-of-2026-01-06-023000.db")}
+    copies = [folder / f"office-2026-01-0{day}-023000.db" for day in range(1, 6)]
+    for it in (*others, *copies):
+        it.touch()
+        os.utime(it, (time.time() - 90 * 86_400,) * 2)
+    done = backed_up(copy, tmp_path, program)
+    assert (done.returncode, done.stderr) == (0, "") and done.stdout.endswith("; 3 kept\n")
+    assert others < set(folder.glob("*.db")) and len(set(folder.glob("*.db")) & set(copies)) == 2
+
+
+def test_a_place_that_holds_something_else(copy: pathlib.Path, tmp_path: pathlib.Path, program: str) -> None:
+    place = tmp_path / "staff"
+    (place / "copy.db").mkdir(parents=True)
+    done = backed_up(copy, tmp_path, program, "--group", own_group(), "--place", str(place))
+    assert done.returncode == 1 and f"is there, but it could not be put into {place} for the group" in done.stderr.splitlines()[-1]
+    assert [it.name for it in place.rglob("*")] == ["copy.db"]
+    before = copy.read_bytes(), copy.stat().st_ino
+    done = backed_up(copy, tmp_path, program, "--group", own_group(), "--place", str(tmp_path))
+    assert (done.returncode, done.stderr) == (1, f"backup: FAILED: {tmp_path} is the office's own folder; name another one\n")
+    assert (copy.read_bytes(), copy.stat().st_ino) == before
