@@ -274,13 +274,17 @@ def tell_health(**given: Any) -> None:
     looked = health.Looked(password=password, **{it: given[it] for it in names})
     limits = ("seconds", "memory", "free", "hours", "days", "minutes")
     found = health.look(looked, health.Limits(*(given[it] for it in limits)))
-    if given["form"] == "json":
-        say(health.as_json(found))
-    elif given["form"] == "metrics":
-        sys.stdout.write(health.as_metrics(found))
-    else:
-        for line in health.as_lines(found):
-            say(line)
+    text = {"json": health.as_json, "metrics": health.as_metrics}.get(given["form"], health.as_lines)(found)
+    try:
+        sys.stdout.write(text)
+        sys.stdout.flush()
+    except OSError as error:
+        if error.errno == errno.EPIPE:
+            raise
+        # (status 1 would say that something is to be looked at, which is no failure to those who ask for the status alone)
+        drop_output()
+        say(f"society-office: standard output: {error.strerror or error}", error=True)
+        sys.exit(health.WRONG)
     sys.exit(health.worst(found))
 
 

@@ -251,7 +251,10 @@ def look_at_certificate(it: Looked, limits: Limits) -> Finding:
     assert it.certificate is not None
     if pathlib.Path(it.certificate).exists():
         words = ["openssl", "x509", "-noout", "-enddate", "-in", it.certificate]
-        ends = subprocess.run(words, capture_output=True, check=True, text=True).stdout.strip().partition("=")[2]
+        done = subprocess.run(words, capture_output=True, check=False, text=True)
+        if done.returncode:
+            raise OfficeError(f"{it.certificate} is no certificate that can be read: {done.stderr.strip().partition(chr(10))[0]}")
+        ends = done.stdout.strip().partition("=")[2]
     else:
         parts = urllib.parse.urlsplit(f"//{it.certificate}")
         context = context_by(it.authority)
@@ -317,11 +320,13 @@ def keep(it: Looked, state: dict[str, Any]) -> list[Finding]:
 
 
 def tried(name: str, look: Callable[[], list[Finding]]) -> list[Finding]:
-    """What a look finds; what can't be looked at is wrong."""
+    """What a look finds; what can't be looked at, for whatever cause, is wrong, and hides nothing else."""
     try:
         return look()
-    except (OfficeError, OSError, ValueError, KeyError, subprocess.CalledProcessError) as error:
+    except (OfficeError, OSError, ValueError) as error:
         return [Finding(name, WRONG, f"could not be looked at: {error}")]
+    except Exception as error:
+        return [Finding(name, WRONG, f"could not be looked at: {type(error).__name__}: {error}")]
 
 
 def look(it: Looked, limits: Limits) -> list[Finding]:
@@ -357,7 +362,7 @@ def as_json(findings: list[Finding]) -> str:
     """The findings as JSON."""
     return json.dumps(
         {"state": STATES[worst(findings)], "findings": [dataclasses.asdict(it) | {"state": STATES[it.state]} for it in findings]}, indent=1
-    )
+    ) + "\n"
 
 
 def as_metrics(findings: list[Finding]) -> str:
@@ -371,7 +376,6 @@ def as_metrics(findings: list[Finding]) -> str:
     return "\n".join(lines) + "\n"
 
 
-def as_lines(findings: list[Finding]) -> Iterator[str]:
+def as_lines(findings: list[Finding]) -> str:
     """The findings for people."""
-    for it in findings:
-        yield f"{STATES[it.state]:5}  {it.name:11}  {it.words}"
+    return "".join(f"{STATES[it.state]:5}  {it.name:11}  {it.words}\n" for it in findings)

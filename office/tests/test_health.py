@@ -14,7 +14,7 @@ from collections.abc import Iterator
 
 import pytest
 import quarter
-from conftest import running
+from conftest import ROOT, running
 from society_office import following, health
 from society_office.copy import open_copy
 from society_office.health import GOOD, WARNING, WRONG, Limits, Looked
@@ -205,3 +205,34 @@ def test_a_backup_is_audited_once(copy: pathlib.Path, tmp_path: pathlib.Path, pr
         database.execute("UPDATE credits SET units = units + 1 WHERE units > 0")
     found = health.look_into_backup(looked, kept)
     assert found.state == WRONG and "says of office-1.db" in found.words and kept["status"] not in (0, 3)
+
+
+def test_what_ends_in_a_fault_of_its_own_is_wrong(monkeypatch: pytest.MonkeyPatch, tmp_path: pathlib.Path) -> None:
+    def broken(*_: object) -> float:
+        raise ZeroDivisionError("no disk")
+
+    monkeypatch.setattr(shutil, "disk_usage", broken)
+    said = run("health", "--office", "http://127.0.0.1:1", "--disk", tmp_path, "--backups", tmp_path, status=2, out=True)
+    assert "WRONG  disk         could not be looked at: ZeroDivisionError: no disk\n" in said and "no backup (*.db)" in said
+    (tmp_path / "it.crt").write_text("none")
+    said = run("health", "--office", "http://127.0.0.1:1", "--certificate", tmp_path / "it.crt", status=2, out=True)
+    assert f"could not be looked at: {tmp_path / 'it.crt'} is no certificate that can be read: " in said
+
+
+@pytest.mark.parametrize("where, said", [("> /dev/full", "No space left on device"), (">&-", "it is closed")])
+def test_health_that_can_not_be_told_is_wrong(where: str, said: str, tmp_path: pathlib.Path) -> None:
+    for form in "", "--json", "--metrics":
+        words = f"{ROOT / 'office/society-office'} health --office http://127.0.0.1:1 {form} {where}"
+        done = subprocess.run(["bash", "-c", words], stderr=subprocess.PIPE, text=True, check=False)
+        assert (done.returncode, done.stderr) == (2, f"society-office: standard output: {said}\n")
+
+
+@pytest.mark.parametrize("status, wanted", [(0, 0), (1, 2), (127, 2)])
+def test_the_unit_of_health_fails_where_its_command_does_not_start(status: int, wanted: int, tmp_path: pathlib.Path) -> None:
+    """Its status 1, which says that something is to be looked at, is also that of Python without a package that is needed."""
+    unit = (ROOT / "debian/units/society-health.service").read_text()
+    (first,) = re.findall(r"^ExecStartPre=(.*)$", unit, re.M)
+    (tmp_path / "society-office").write_text(f"#!/bin/sh\nexit {status}\n")
+    (tmp_path / "society-office").chmod(0o755)
+    done = subprocess.run(["bash", "-c", first], env={"PATH": f"{tmp_path}:/usr/bin:/bin"}, check=False)
+    assert done.returncode == wanted and "SuccessExitStatus=1\n" in unit
