@@ -5,8 +5,10 @@ import grp
 import http.server
 import os
 import pathlib
+import re
 import shutil
 import signal
+import socket
 import subprocess
 import sys
 import tempfile
@@ -144,6 +146,16 @@ def test_a_front_that_no_office_tells_is_refused_first(copy: pathlib.Path, tmp_p
     words = [RESTORE, "--from", copy, "--db", tmp_path / "office.db", "--sender", "PB000000012", "--front", front, "--service", "no-such"]
     done = subprocess.run(words, capture_output=True, text=True, check=False)
     assert done.returncode == 2 and done.stderr.startswith("usage: society-restore --from") and not (tmp_path / "office.db").exists()
+
+
+def shorter(script: pathlib.Path, folder: pathlib.Path, seconds: int) -> pathlib.Path:
+    """The script as in a checkout, whose longest time is so many seconds."""
+    found = folder / "checkout/debian/bin" / script.name
+    found.parent.mkdir(parents=True)
+    (folder / "checkout/office").symlink_to(ROOT / "office")
+    found.write_text(re.sub(r"^LONGEST=\d+$", f"LONGEST={seconds}", script.read_text(), flags=re.M))
+    found.chmod(0o755)
+    return found
 
 
 # In the place of `systemctl`: `start` starts an office that ends with its first connection.
@@ -292,12 +304,7 @@ def test_a_program_that_fails_meanwhile(copy: pathlib.Path, tmp_path: pathlib.Pa
 
 
 def test_a_halted_office_is_not_waited_for_for_ever(copy: pathlib.Path, tmp_path: pathlib.Path, program: str) -> None:
-    tools = tmp_path / "tools"
-    (tmp_path / "debian/bin").mkdir(parents=True)
-    (tmp_path / "office").symlink_to(ROOT / "office")
-    script = tmp_path / "debian/bin/society-backup"
-    script.write_text(BACKUP.read_text().replace("LONGEST=60\n", "LONGEST=2\n"))
-    script.chmod(0o755)
+    tools, script = tmp_path / "tools", shorter(BACKUP, tmp_path, 2)
     tools.mkdir()
     # (as where it takes long to look through many processes)
     (tools / "sleep").write_text("#!/bin/sh\nexec /bin/sleep 2\n")
@@ -332,3 +339,39 @@ def test_a_place_that_holds_something_else(copy: pathlib.Path, tmp_path: pathlib
     done = backed_up(copy, tmp_path, program, "--group", own_group(), "--place", str(tmp_path))
     assert (done.returncode, done.stderr) == (1, f"backup: FAILED: {tmp_path} is the office's own folder; name another one\n")
     assert (copy.read_bytes(), copy.stat().st_ino) == before
+
+
+# In the place of `systemctl`, of a service that never answers: it takes a start only once its failures are forgotten.
+FAILING = """#!/bin/bash
+cd "$(dirname "$0")"
+echo "$1" >> asked
+case $1 in
+  reset-failed) touch forgotten ;;
+  start) [ -e forgotten ] ;;
+  is-active) echo STATE ;;
+esac
+"""
+
+
+@pytest.mark.parametrize("state", ["failed", "activating"])
+@pytest.mark.parametrize("hangs", [True, False])
+def test_a_service_that_does_not_answer(copy: pathlib.Path, tmp_path: pathlib.Path, program: str, state: str, hangs: bool) -> None:
+    tools, script = tmp_path / "tools", shorter(RESTORE, tmp_path, 6 if hangs or state == "activating" else 600)
+    tools.mkdir()
+    (tmp_path / "office").mkdir()
+    (tools / "systemctl").write_text(FAILING.replace("STATE", state))
+    (tools / "systemctl").chmod(0o755)
+    with socket.create_server(("127.0.0.1", 0)) if hangs else socket.socket() as halted:
+        port = halted.getsockname()[1] if hangs else free_port()
+        words = [script, "--from", copy, "--db", tmp_path / "office/office.db", "--sender", "PB000000012", "--front", "3"]
+        done = subprocess.run(
+            [*words, "--port", str(port), "--program", program],
+            env={**os.environ, "PATH": f"{tools}:{os.environ['PATH']}"},
+            capture_output=True,
+            text=True,
+            timeout=100,
+            check=False,
+        )
+    assert done.returncode == 1 and f"the front of PB000000012 is not told at port {port}, not 3. society is stopped" in done.stderr
+    asked = (tools / "asked").read_text().split()
+    assert asked[:3] == ["stop", "reset-failed", "start"] and asked[-1] == "stop" and (tmp_path / "office/office.db").exists()
