@@ -8,7 +8,7 @@ from society_office import comparing
 from society_office.asking import Connections, Request
 from society_office.copy import Copy
 from society_office.errors import OfficeError
-from society_office.numbering import Line, path_of, segment_of, segment_text
+from society_office.numbering import Line, path_of, rank_in, segment_of, segment_text
 from society_office.program import Answer
 
 END, FILE, RETURN, ORDER = "end", "file", "return", "order"
@@ -26,6 +26,8 @@ WHY = {
     (ORDER, "paid"): "another pool of it has paid a return that the order names",
 }
 NO_SUCH_PATH = "it takes no such path: is it the office of another society?"
+# A sender in whose name an office is asked where the copy has none.
+ANY_SENDER = "PB000000000"
 # So many refused requests are named for each cause.
 MOST_NAMED = 5
 
@@ -135,6 +137,19 @@ def how_many(copy: Copy) -> int:
     return sum(int(copy.row(f"SELECT count(*) FROM {table}")[0]) for table in tables)
 
 
+def need_same_society(copy: Copy, office: Connections) -> None:
+    """An OfficeError where the other office is of another society: what it would take can't be taken back.
+
+    It is asked to take an empty file, which no office does, by a name that has the society: of another one that is no path at all.
+    """
+    (sender,) = copy.row("SELECT sender FROM transmissions") or (ANY_SENDER,)
+    name = path_of(rank_in(0, 1), copy.society)
+    if office.ask(Request(FILE, f"senders/{sender}/{name}", b"")).status == 404:
+        raise OfficeError(
+            f"{office.address} takes no file of society {copy.society}: it is the office of another society, or none. Nothing was sent"
+        )
+
+
 def resend(copy: Copy, office: Connections, since_fronts: bool, tell: Callable[[], None]) -> Tally:
     """Sends all that a copy has, or only what another office lacks by its fronts and by the orders that it knows.
 
@@ -147,6 +162,7 @@ def resend(copy: Copy, office: Connections, since_fronts: bool, tell: Callable[[
             tally.take(it, answer)
             tell()
 
+    need_same_society(copy, office)
     if since_fronts:
         fronts.ask(copy, office)
         paid = closed(copy, office, tally)

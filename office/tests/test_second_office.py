@@ -7,6 +7,7 @@ import pathlib
 import random
 import re
 import shutil
+import subprocess
 import threading
 import time
 from collections.abc import Iterator
@@ -383,3 +384,21 @@ def test_connections_are_ended_whatever_comes(copy: pathlib.Path, monkeypatch: p
     address = f"http://127.0.0.1:{free_port()}"
     run("resend", copy, "--to", address, "--wait", 0, status=1)
     assert ended == [address]
+
+
+@pytest.mark.parametrize("words", [[], ["--since-fronts"]])
+def test_nothing_is_sent_to_another_society(copy: pathlib.Path, program: str, tmp_path: pathlib.Path, words: list[str]) -> None:
+    port, other = free_port(), tmp_path / "other.db"
+    options = ["--db", str(other), "--port", str(port), "--connections", "9", "--society", "901", "--territory", "40", "--name", "OTHER"]
+    with subprocess.Popen([program, "serve", *options], stdout=subprocess.PIPE) as process:
+        try:
+            assert process.stdout and process.stdout.readline() == b"listening\n"
+            said = run("resend", copy, "--to", f"http://127.0.0.1:{port}", *words, status=1)
+        finally:
+            process.terminate()
+    assert "takes no file of society 900: it is the office of another society, or none. Nothing was sent" in said
+    backed_up(other, tmp_path / "its.db")
+    with open_copy(tmp_path / "its.db") as its:
+        assert resending.how_many(its) == 0
+    with standing(program, tmp_path / "same.db") as address:
+        assert " 0 known, 0 refused" in run("resend", copy, "--to", address, *words)
