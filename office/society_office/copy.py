@@ -203,6 +203,8 @@ def refuse_another(path: pathlib.Path) -> None:
         raise OfficeError(f"{path} may not be read by this user") from error
     if start and start != book_log.DATABASE:
         raise OfficeError(f"{path} is no SQLite database")
+    if (log := beside(path, "-wal")).exists() and not log.is_file():
+        raise OfficeError(f"{log} is no file")
     journal = beside(path, "-journal")
     if journal.exists() and journal.stat().st_size:
         raise OfficeError(f"{journal} stands beside {path}: a change of it was not ended. Copy it again")

@@ -7,6 +7,7 @@ import http.client
 import json
 import os
 import pathlib
+import re
 import shutil
 import socket
 import ssl
@@ -26,6 +27,8 @@ CHECKOUT = pathlib.Path(__file__).resolve().parent.parent.parent
 # Seconds that a throw-away office may take to listen, and to answer.
 START, ANSWER = 600, 600
 MANY = 1_000_000
+# What stands in no name of a host.
+UNPRINTED = re.compile(r"[\x00-\x20\x7f]")
 # An office answers so to what it takes, or has already.
 TAKEN = (200, 201, 202)
 
@@ -110,7 +113,8 @@ def parts_of(address: str) -> urllib.parse.SplitResult:
     """The parts of an office's address; an OfficeError where it is none."""
     with contextlib.suppress(ValueError):
         parts = urllib.parse.urlsplit(address)
-        if parts.scheme in ("http", "https") and parts.hostname and not parts.query and not parts.fragment and port_of(parts) is not None:
+        is_office = parts.scheme in ("http", "https") and not parts.query and not parts.fragment and port_of(parts) is not None
+        if is_office and parts.hostname and not UNPRINTED.search(parts.hostname):
             return parts
     raise OfficeError(f"{address} is no address of an office: write http://127.0.0.1:8080 or https://office.example:8443")
 

@@ -142,6 +142,13 @@ def test_pages_take_the_place_of_nothing_but_a_folder(copy: pathlib.Path, place:
     assert "is no folder of pages" in said and copy.read_bytes() == before and list(copy.parent.iterdir()) == [copy]
 
 
+def test_a_pipe_in_the_place_of_the_log_of_a_copy(copy: pathlib.Path) -> None:
+    log = copy.with_name("copy.db-wal")
+    os.mkfifo(log)
+    done = shell(f"timeout 20 $it parties {copy}")
+    assert (done.returncode, done.stdout, done.stderr) == (1, "", f"society-office: {log} is no file\n")
+
+
 @pytest.mark.parametrize("words", ["statement {} I00000000199", "parties {}", "statement {} I00000000199 --format csv"])
 def test_nothing_is_written_over_a_copy(copy: pathlib.Path, words: str) -> None:
     log, link = copy.with_name("other.db-wal"), copy.with_name("link")
@@ -206,7 +213,7 @@ def test_a_folder_in_the_place_of_the_offices_file(copy: pathlib.Path, monkeypat
     assert "file" in run("health", "--office", f"http://127.0.0.1:{free_port()}", "--db", ".", status=2, out=True)
 
 
-@pytest.mark.parametrize("address", ["ftp://x", "http://", "http://x:99999", "http://x:y", "http://x/?a"])
+@pytest.mark.parametrize("address", ["ftp://x", "http://", "http://x:99999", "http://x:y", "http://x/?a", "http://x y:80"])
 def test_what_is_no_address(address: str) -> None:
     with pytest.raises(OfficeError, match="is no address of an office"):
         Office(address)
