@@ -67,7 +67,7 @@ class Log:
         whole = len(self.header) == HEADER
         self.words: tuple[int, ...] = struct.unpack(">8I", self.header) if whole else (0,) * 8
         # (the office shuts a log by its first byte, once all of it is in the file, and then begins it anew)
-        self.is_shut = self.header[:1] == b"\0"
+        self.is_shut = self.header[:1] == b"\0" and any(self.header)
         self.is_swapped = bool(self.words[0] & 1) == (sys.byteorder == "little")
         is_page = 512 <= self.words[2] <= 65_536 and self.words[2] & (self.words[2] - 1) == 0
         self.is_right = whole and self.words[0] & ~1 == MAGIC and is_page and self.sums(self.header[:24], (0, 0)) == self.words[6:]
@@ -88,18 +88,20 @@ class Log:
             file.seek(HEADER)
             while len(head := file.read(FRAME_HEADER)) == FRAME_HEADER and len(content := file.read(self.page_size)) == self.page_size:
                 page, ends, *own, first, second = struct.unpack(">6I", head)
-                salts = salts or tuple(own)
+                # (of a log that was emptied under the office the first frames are nothing)
+                salts = salts or (tuple(own) if any(own) else (0, 0) if any(self.header) else None)
                 is_right = tuple(own) == salts and self.sums(head[:8] + content, before) == (first, second)
-                yield Frame(page, ends, own == [salts[0] & 0xFF_FFFF, salts[1]], is_right, content)
+                yield Frame(page, ends, salts is not None and own == [salts[0] & 0xFF_FFFF, salts[1]], is_right, content)
                 before = first, second
 
     def lost(self) -> tuple[int, int]:
         """Where the log ends, in pages, and how many confirmed transactions stand behind its end, of which a start reads none.
 
         A transaction that was broken off has no last page with the log's own salts and right sums, or an open first one. So any other
-        last page behind the end means that something before it was changed.
+        last page behind the end means that something before it was changed. A log that was emptied while the office had it open begins with
+        nothing; one transaction behind that may be the first of a new log, which a power failure broke off.
         """
-        is_read, end, lost = self.is_right, 0, 0
+        is_read, end, lost = self.is_right, 0, 0 if any(self.header) else -1
         for frame in () if self.is_shut else self.frames():
             if is_read and not frame.is_right:
                 is_read, lost = False, -1 if frame.is_open else 0

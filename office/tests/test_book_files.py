@@ -13,7 +13,8 @@ from click.testing import CliRunner
 from conftest import OFFICE
 from society_office import book_files, book_log, health
 from society_office.cli import main
-from society_office.program import free_port
+from society_office.program import Office, free_port
+from test_backup import BACKUP
 
 Served = tuple[pathlib.Path, list[str]]
 
@@ -79,6 +80,20 @@ def test_what_the_next_start_is_refused_for(served: Served) -> None:
     journal.write_bytes(b"x")
     state, said = findings(words)["file"]
     assert state == "WRONG" and f"{journal} stands there" in said and "and the next start is refused: move it away" in said
+
+
+def test_a_log_that_was_emptied_under_the_office(served: Served, program: str) -> None:
+    database, words = served
+    log, office = book_files.log_of(database), Office(words[words.index("--office") + 1])
+    log.write_bytes(b"")
+    for number, state in (1, "good"), (2, "WRONG"):
+        assert office.ask("PUT", f"/v1/returns/TV9/{number}", b"isrc,plays,seconds\n").status == 201
+        office.close()
+        assert findings(words)["file"][0] == state
+    assert f"{log} is damaged: 1 transactions stand behind a page" in findings(words)["file"][1]
+    backup = [BACKUP, "--db", database, "--to", database.parent / "to", "--program", program]
+    done = subprocess.run(backup, stderr=subprocess.PIPE, check=False)
+    assert done.returncode == 1 and b"office.db-wal is damaged" in done.stderr and list((database.parent / "to").glob("*.db")) == []
 
 
 def test_a_link_to_the_file(served: Served, tmp_path: pathlib.Path) -> None:
