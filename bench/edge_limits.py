@@ -7,6 +7,7 @@ import contextlib
 import http.client
 import os
 import pathlib
+import re
 import resource
 import socket
 import ssl
@@ -16,6 +17,8 @@ import time
 from edge_asking import FIRST_SENDER as OWN
 from edge_asking import OFFICE, OTHER_SENDER as OTHER, READER, asked, connected, head_of
 
+# A line of the system's log on a request that was refused, and its status.
+REFUSED = re.compile(rb'nginx: 127\.0\.0\.[0-9]+ - \S+ ".*" ([0-9]{3}) \S+ \S+$')
 # Half-open connections for each processor here: a worker has room for 512, and 1,024 files, where nothing is said.
 HALF_OPEN_EACH = 1_500
 HALF_HELLO = b"\x16\x03\x01\x02\x00\x01"
@@ -222,6 +225,64 @@ def long_body(proxy):
         return peer.recv(1 << 10).startswith(b"HTTP/1.1 413 ")
 
 
+# What is written of requests.
+@contextlib.contextmanager
+def system_log(proxy):
+    """The lines that the system's log is told meanwhile; the list is full at the end."""
+    lines = []
+    with socket.socket(socket.AF_UNIX, socket.SOCK_DGRAM) as listening:
+        proxy.system_log.unlink(missing_ok=True)
+        listening.bind(str(proxy.system_log))
+        proxy.system_log.chmod(0o666)
+        thread = threading.Thread(target=lambda: lines.extend(iter(lambda: listening.recv(1 << 16), b"end")))
+        thread.start()
+        try:
+            yield lines
+        finally:
+            with socket.socket(socket.AF_UNIX, socket.SOCK_DGRAM) as last:
+                last.sendto(b"end", str(proxy.system_log))
+            thread.join()
+
+
+def plainly(proxy, text, source):
+    """The status of what is sent without TLS."""
+    with socket.create_connection(("127.0.0.1", proxy.port), timeout=20, source_address=(source, 0)) as peer:
+        peer.sendall(text)
+        return int(peer.recv(1 << 10).split()[1])
+
+
+def refusals(proxy, source):
+    """The statuses of requests that are refused, each for a cause of its own."""
+    long, crowd = "A" * 6_000, "127.0.0.30"
+    yield from (asked(proxy, None, "GET", path, source=source)[0] for path in (PATHS[OWN], f"/{long}", "/v1", "/mirror"))
+    yield asked(proxy, OWN, "GET", PATHS[OWN], source=source, password="guess")[0]
+    yield from (asked(proxy, user, "GET", PATHS[OTHER], source=source)[0] for user in (OWN, long[:4_000], "two words"))
+    yield asked(proxy, OFFICE, "GET", "/desk/none", source=source)[0]
+    yield asked(proxy, OWN, "PUT", f"/v1/senders/{OWN}/transmissions/8", bytes(1_048_577), source=source)[0]
+    yield asked(proxy, OWN, "NO METHOD", PATHS[OWN], source=source)[0]
+    yield plainly(proxy, b"GET / HTTP/1.0\r\n\r\n", source)
+    with concurrent.futures.ThreadPoolExecutor(60) as threads:
+        found = list(threads.map(lambda _: status_of(proxy, OFFICE, crowd), range(60)))
+    yield from (it for it in found if it != 200)
+
+
+def refused_fill_no_disk(proxy):
+    """What is refused leaves no line in a file, but a short one in the system's log; what is answered leaves a short one in access.log."""
+    access, known = proxy.home / "access.log", b"127.0.0.31 - office ["
+    before = len(access.read_bytes())
+    with system_log(proxy) as told:
+        statuses = list(refusals(proxy, "127.0.0.29"))
+        status_of(proxy, OFFICE, "127.0.0.31")
+        asked(proxy, OFFICE, "GET", "/v1/senders/" + "A" * 6_000, source="127.0.0.31")
+        time.sleep(0.5)
+    kept = access.read_bytes()[before:].splitlines()
+    refused = [it for it in map(REFUSED.search, told) if it]
+    is_told = sorted(int(it[1]) for it in refused) == sorted(statuses) and 503 in statuses
+    is_kept = sum(it.startswith(known) for it in kept) == 2 and all(b'" 200 ' in it or it.startswith(known) for it in kept)
+    is_short = all(len(it) < 400 for it in [*kept, *(it[0] for it in refused)])
+    return is_told and is_kept and is_short and not (proxy.home / "error.log").read_bytes()
+
+
 # What is said beside the answer, and what is handed on.
 def answer_of(proxy, user, path, **how):
     """The answer's head, read to its end."""
@@ -310,6 +371,12 @@ CASES = {
     twenty_of_address: [("        limit_req zone=requests burst=40;\n", "")],
     twenty_of_user: [("        limit_req zone=requests_of_user burst=40;\n", "")],
     four_guesses: [("    auth_delay 2s;\n", "")],
+    refused_fill_no_disk: [
+        (" short if=$is_let_through", " short"),
+        ("error_log syslog:server=unix:/dev/log,nohostname,tag=nginx;\n", "error_log error.log;\n"),
+        ("{0,200}", "*"),
+        (r"(?<name>\S{1,40})", r"(?<name>\S+)"),
+    ],
     long_body: [("client_max_body_size 1048576", "client_max_body_size 2m")],
     no_frame: [("        add_header X-Frame-Options DENY always;\n", "")],
     no_guessed_type: [("        add_header X-Content-Type-Options nosniff always;\n", "")],

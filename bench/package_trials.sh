@@ -102,6 +102,12 @@ has "logs are the proxy's alone" "society-proxy 600" stat -c '%U %a' /var/lib/so
 has "logs are turned" "access.log.1" sh -c 'logrotate -f /etc/logrotate.d/society-proxy; ls /var/lib/society-proxy'
 has "nginx goes on in the new ones" "GET /desk/" bash -c "sleep 1; $(declare -f tls); proxy=$proxy; tls office -o /dev/null $s/desk/; cat /var/lib/society-proxy/access.log"
 
+flood() { for _ in $(seq "$1"); do printf 'GET /%s HTTP/1.0\r\n\r\n' none > /dev/tcp/127.0.0.1/8443; done; }
+lines_of_proxy() { journalctl -q -o cat _SYSTEMD_UNIT=society-proxy.service | grep -c '"GET /none'; }
+has "what is refused is told" 1 bash -c "$(declare -f flood lines_of_proxy); flood 1; sleep 1; lines_of_proxy"
+has "no end of it fills the log" within bash -c "$(declare -f flood lines_of_proxy at_most); flood 5000; sleep 1; at_most \$(lines_of_proxy) 600"
+has "the rest is counted" "Suppressed" seconds 61 bash -c "$(declare -f flood); flood 1; sleep 1; journalctl -q -t systemd-journald"
+has "nor a file" "0 0" bash -c "grep -c /none /var/lib/society-proxy/access.log /var/lib/society-proxy/error.log | sed 's/.*://' | xargs"
 has "reloaded" "200" bash -c "systemctl reload society-proxy && sleep 1 && $(declare -f tls) && proxy=$proxy && tls office -o /dev/null -w '%{http_code}' $s/desk/"
 
 has "a backup by its unit, while the office runs" "Result=success" ended society-backup
