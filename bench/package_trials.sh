@@ -18,7 +18,7 @@ NEEDED=adduser,curl,openssl,python3,python3-click,python3-jinja2,python3-rich,sq
 # What both machines use.
 both() {
   cat <<'INSIDE'
-export DEBIAN_FRONTEND=noninteractive
+export DEBIAN_FRONTEND=noninteractive no_proxy=127.0.0.1,localhost
 file=/var/lib/society/office.db settings=/etc/society/office.conf
 o=http://127.0.0.1:23080/v1 s=https://localhost:8443 proxy=/etc/society/proxy
 units="society society-proxy society-trial society-site society-health society-backup society-standby society-rebuild"

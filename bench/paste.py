@@ -34,6 +34,8 @@ PRACTICE = "bench/practice.sh"
 PROGRAMS = ["curl", "nginx", "openssl", "sqlite3"]
 MODULES = ["click", "jinja2", "rich"]
 PYTHON = "/usr/bin/python3"
+# The proxy of the shell, which nothing that the blocks ask for on this machine may go to: nobody listens there.
+NO_PROXY = "http://127.0.0.1:9"
 FENCE = re.compile(r"^( *)(```+|~~~+) *(\w*) *$")
 PORT = re.compile(r"--port[ =](\d+)|127\.0\.0\.1:(\d+)|localhost:(\d+)")
 # What bash says of its jobs: `[1] 4711`, `[1]+  Terminated  ..`, `bash: line 3:  4711 Terminated  ..`.
@@ -143,6 +145,7 @@ class Shell:
 
     def __init__(self, checkout, path):
         env = {"PATH": f"{path}:{os.environ['PATH']}", "HOME": str(checkout.parent), "LANG": "C.UTF-8", "TERM": "dumb"}
+        env |= dict.fromkeys(["http_proxy", "https_proxy", "all_proxy"], NO_PROXY)
         pipes = {"stdin": subprocess.PIPE, "stdout": subprocess.PIPE, "stderr": subprocess.STDOUT}
         self.process = subprocess.Popen(["bash", "--noprofile", "--norc"], cwd=checkout, env=env, **pipes)
         os.set_blocking(self.process.stdout.fileno(), False)

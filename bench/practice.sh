@@ -6,7 +6,7 @@
 # shellcheck shell=bash
 mkdir practice
 cd practice || return
-export HOME=$PWD
+export HOME=$PWD no_proxy=127.0.0.1,localhost
 society serve --db office.db --port 8080 --connections 1000 --society 900 --territory 40 --name 'EXAMPLE SOCIETY' > office.log &
 server=$!
 mkdir proxy
