@@ -76,6 +76,15 @@ def test_a_copy_for_a_group(copy: pathlib.Path, open_folder: pathlib.Path, progr
             assert ran.returncode == status, ran.stderr
 
 
+def test_a_folder_for_a_group_where_no_copy_was_made(tmp_path: pathlib.Path, program: str) -> None:
+    """Whoever looks after the backups sees that there is none."""
+    database, group = tmp_path / "office.db", own_group()
+    database.write_bytes(b"no database" * 100)
+    assert backed_up(database, tmp_path, program, "--group", group).returncode == 1
+    found = (tmp_path / "backups").stat()
+    assert (found.st_gid, found.st_mode & 0o777) == (grp.getgrnam(group).gr_gid, 0o750)
+
+
 def test_no_copy_for_a_group_that_is_none(copy: pathlib.Path, tmp_path: pathlib.Path, program: str) -> None:
     done = backed_up(copy, tmp_path, program, "--group", "no-such-group", "--place", str(tmp_path / "staff"))
     assert (done.returncode, done.stderr) == (1, "backup: FAILED: there is no group no-such-group\n")
