@@ -62,6 +62,7 @@ for it in $units; do
   echo "exposure of $it: $(exposure $it)" >> /srv/seen
   has "exposure of $it" within at_most "$(exposure $it)" $most
 done
+has "their timers" "status 0" sh -c "systemd-analyze verify --man=no $timers; echo status \$?"
 has "its folder" "_society _society 750" stat -c '%U %G %a' /var/lib/society
 has "the program is the one of the release" "OK" sh -c 'cd /usr/bin && sha256sum -c /usr/share/society/release/society.sha256'
 has "not begun before it is configured" "has no SOCIETY" society-begin
@@ -176,6 +177,13 @@ kept=$(book)
 has "removed while all run" "Removing society" apt-get remove -y society society-office
 has "they have stopped" "inactive inactive inactive" sh -c 'systemctl is-active society society-proxy society-trial | xargs'
 has "settings stay" "SOCIETY=900" cat $settings
+systemctl --quiet enable society-backup.timer
+install_these /srv/society_*.deb /srv/society-office_*.deb > /srv/again 2>&1
+has "installed again: what does not run is told" "the office does not run" cat /srv/again
+has "nor the proxy" "the proxy does not run" cat /srv/again
+has "nor a timer" "what is enabled does not run: systemctl start society-backup.timer" cat /srv/again
+has "the same office" '{"front":3,"held":[]}' sh -c "systemctl start society; $(declare -f ask front); o=$o; front"
+apt-get remove -y society society-office > /dev/null 2>&1
 kept=$(book)
 apt-get purge -y society society-office > /srv/purged 2>&1
 has "purged: the book is told" "the book stays in /var/lib/society" cat /srv/purged
@@ -217,7 +225,25 @@ has "purged: the book is told" "the book stays in /var/lib/society, and the user
 has "the book is the same" same is_same_book
 has "no link that leads nowhere" none dangling
 
-rm -rf /var/lib/society /var/backups/society
+forget() { apt-get purge -y society society-office > /dev/null 2>&1; rm -rf /var/lib/society /var/backups/society; deluser --quiet "$1"; }
+forget office
+has "older ones again" "Setting up society-office" install_these /srv/older/society_*.deb /srv/older/society-office_*.deb
+fill_in
+society-begin && systemctl --quiet enable --now society
+dpkg --unpack /srv/society_*.deb /srv/society-office_*.deb > /dev/null 2>&1
+systemctl daemon-reload; systemctl restart society 2> /dev/null
+has "an upgrade that was cut off, and ended later, tells that the office is down" "the office does not run" dpkg --configure -a
+systemctl reset-failed society
+has "and then it starts" '{"front":0,"held":[]}' sh -c "systemctl start society; $(declare -f ask front); o=$o; front"
+has "a downgrade" "Setting up society-office" install_these --allow-downgrades /srv/older/society_*.deb /srv/older/society-office_*.deb
+has "the older program" '{"front":0,"held":[]}' sh -c "systemctl restart society; $(declare -f ask front); o=$o; front"
+has "and the newer one again" "the office runs the program of before" install_these /srv/society_*.deb /srv/society-office_*.deb
+has "over the same book" '{"front":0,"held":[]}' sh -c "systemctl restart society; $(declare -f ask front); o=$o; front"
+forget office
+useradd --system --gid nogroup _society
+has "a user of that name, in another group" "Setting up society-office" install_these /srv/society_*.deb /srv/society-office_*.deb
+has "the folder is that user's" "_society nogroup 750" stat -c '%U %G %a' /var/lib/society
+forget _society
 has "installed on a new machine" "Setting up society-office" install_these /srv/society_*.deb /srv/society-office_*.deb
 fill_in
 restore() { society-restore --from "$1" --db $file --port 23080 --sender PB000000012 --front "$2" 2>&1 | tee /srv/told; }
