@@ -90,6 +90,12 @@ sed -i 's/default 127.0.0.1:8080/default 127.0.0.1:23080/' $proxy/nginx.conf
  openssl req -x509 -newkey rsa:2048 -nodes -keyout office.key -out office.crt -days 30 -subj /CN=localhost -addext subjectAltName=DNS:localhost 2> /dev/null
  for user in office PB000000012; do echo "$user:$(openssl passwd -6 "secret of $user")" >> passwords; done
  chown root:society-proxy office.key passwords; chmod 640 office.key passwords; chmod 644 office.crt)
+python3 -m http.server --bind 127.0.0.1 8443 > /dev/null 2>&1 &
+other=$!
+has "no proxy at a port that is taken" "Job for society-proxy.service failed" seconds 1 systemctl start society-proxy
+kill $other
+has "that is told" "bind() to 127.0.0.1:8443 failed" journalctl -q -u society-proxy
+systemctl stop society-proxy
 systemctl --quiet enable --now society-proxy
 tls() { curl -sS --retry 20 --retry-connrefused --cacert $proxy/office.crt -u "$1:secret of $1" "${@:2}"; }
 has "behind the proxy" '{"front":1,"held":[]}' tls PB000000012 $s/v1/senders/PB000000012
