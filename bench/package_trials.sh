@@ -1,8 +1,8 @@
 #!/usr/bin/env bash
 # Tries the packages in two machines, which are booted containers of Debian 12 with systemd. The first: both packages installed, configured, an
-# office begun, served behind the packaged proxy with a certificate of its own, a trial office, a backup, pages, health, a standby, rebuilt,
-# removed, purged. The second: an office of the packages from before, upgraded while it runs, purged; then the first one's backup restored
-# there, and the restore killed at each step.
+# office begun, served behind the packaged proxy with a certificate of its own, flooded, a trial office, a backup, pages, health, a standby,
+# rebuilt, removed, purged, and installed again after both. The second: an office of the packages from before, upgraded while it runs, purged;
+# an upgrade that is cut off, a downgrade; then the first one's backup restored there, and the restore killed at each step.
 #
 #     bench/package_trials.sh [FOLDER]
 #
@@ -200,6 +200,12 @@ has "settings are gone" "No such file" cat $settings
 has "no link that leads nowhere" none dangling
 has "what was made of copies is gone" "No such file" ls /var/lib/society-site
 has "also for a standby" "No such file" ls /var/lib/society-standby
+has "installed after a purge" "Setting up society-office" install_these /srv/society_*.deb /srv/society-office_*.deb
+fill_in
+has "not begun anew" "there is an office already" society-begin
+has "the book from before" '{"front":3,"held":[]}' sh -c "systemctl start society; $(declare -f ask front); o=$o; front"
+has "its certificate and passwords too" 200 bash -c "sed -i 's/default 127.0.0.1:8080/default 127.0.0.1:23080/' $proxy/nginx.conf; systemctl start society-proxy
+  $(declare -f tls); proxy=$proxy; tls PB000000012 -o /dev/null -w '%{http_code}' $s/v1/senders/PB000000012"
 INSIDE
 }
 
