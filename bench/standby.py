@@ -188,7 +188,7 @@ class User:
                 answer = self.connection.getresponse()
                 answer.read()
                 return answer.status, time.monotonic() - begun
-            except (http.client.RemoteDisconnected, BrokenPipeError):
+            except (ConnectionError, ssl.SSLEOFError):
                 self.connection.close()
                 assert not is_last
 
