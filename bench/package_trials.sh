@@ -107,7 +107,7 @@ has "its faults" '"means"' tls office $s/desk/faults.json
 has "as many files as it says" "16384" sh -c 'cat /proc/$(systemctl show -p MainPID --value society-proxy)/limits | grep "open files"'
 has "logs are the proxy's alone" "society-proxy 600" stat -c '%U %a' /var/lib/society-proxy/access.log
 has "logs are turned" "access.log.1" sh -c 'logrotate -f /etc/logrotate.d/society-proxy; ls /var/lib/society-proxy'
-has "nginx goes on in the new ones" "GET /desk/" bash -c "sleep 1; $(declare -f tls); proxy=$proxy; tls office -o /dev/null $s/desk/; cat /var/lib/society-proxy/access.log"
+has "nginx goes on in the new ones" "GET /desk/" bash -c "sleep 1; $(declare -f tls); proxy=$proxy; tls office -o /dev/null $s/desk/; sleep 1; cat /var/lib/society-proxy/access.log"
 
 flood() { for _ in $(seq "$1"); do printf 'GET /%s HTTP/1.0\r\n\r\n' none > /dev/tcp/127.0.0.1/8443; done; }
 lines_of_proxy() { journalctl -q -o cat _SYSTEMD_UNIT=society-proxy.service | grep -c '"GET /none'; }
@@ -180,10 +180,11 @@ has "rebuilt by its unit" "Result=success" ended society-rebuild
 has "that is told" "follows from what was sent: 3 files, 1 return, 1 pool" journalctl -q -u society-rebuild
 
 kept=$(book)
+has "an upgrade tells what goes on as before" "systemctl restart society-proxy" install_these --reinstall /srv/society_*.deb
+systemctl --quiet enable society-backup.timer
 has "removed while all run" "Removing society" apt-get remove -y society society-office
 has "they have stopped" "inactive inactive inactive" sh -c 'systemctl is-active society society-proxy society-trial | xargs'
 has "settings stay" "SOCIETY=900" cat $settings
-systemctl --quiet enable society-backup.timer
 install_these /srv/society_*.deb /srv/society-office_*.deb > /srv/again 2>&1
 has "installed again: what does not run is told" "the office does not run" cat /srv/again
 has "nor the proxy" "the proxy does not run" cat /srv/again
@@ -253,7 +254,8 @@ has "and the newer one again" "the office runs the program of before" install_th
 has "over the same book" '{"front":0,"held":[]}' sh -c "systemctl restart society; $(declare -f ask front); o=$o; front"
 forget office
 useradd --system --gid nogroup _society
-has "a user of that name, in another group" "Setting up society-office" install_these /srv/society_*.deb /srv/society-office_*.deb
+mkdir /var/lib/society
+has "a user of that name, in another group, and a folder of root's" "Setting up society-office" install_these /srv/society_*.deb /srv/society-office_*.deb
 has "the folder is that user's" "_society nogroup 750" stat -c '%U %G %a' /var/lib/society
 forget _society
 has "installed on a new machine" "Setting up society-office" install_these /srv/society_*.deb /srv/society-office_*.deb
