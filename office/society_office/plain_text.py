@@ -2,8 +2,8 @@
 
 import re
 
-# The place before what a spreadsheet takes for a formula, where a cell begins: for many of them also behind a `;`.
-FORMULA = re.compile(r"((?:^|;) *)(?=[=+@\t\r-])")
+# The place before what a spreadsheet takes for a formula, where a cell begins: for many of them also behind a `;` and its quotes.
+FORMULA = re.compile(r"(^ *|;[ \"]*)(?=[=+@\t\r-])")
 
 
 def plain(value: str) -> str:

@@ -120,10 +120,23 @@ def test_a_csv_is_what_a_writer_of_csv_makes(copy: pathlib.Path, key: str, reque
 
 @pytest.mark.parametrize(
     "text, cell",
-    [("A=B", "A=B"), ("=A", "'=A"), ("-", "'-"), (" +A", " '+A"), ("A;=B", "A;'=B"), ("=A; @B;;-C", "'=A; '@B;;'-C"), ("\t=A", "'\t=A")],
+    [
+        ("A=B", "A=B"),
+        ("=A", "'=A"),
+        ("-", "'-"),
+        (" +A", " '+A"),
+        ("A;=B", "A;'=B"),
+        ("=A; @B;;-C", "'=A; '@B;;'-C"),
+        ("\t=A", "'\t=A"),
+        ('A;"=B', "A;\"'=B"),
+        ('A; ""@B', "A; \"\"'@B"),
+    ],
 )
 def test_no_cell_is_a_formula_also_where_cells_end_with_semicolons(text: str, cell: str) -> None:
-    assert plain(text) == lines.cell(text) == cell
+    assert plain(text) == cell and lines.cell(text) == lines.quoted(cell)
+    out = io.StringIO()
+    csv.writer(out, lineterminator="\n").writerow(["1", plain(text)])
+    assert not [it for it in next(csv.reader([out.getvalue()], delimiter=";")) if it.lstrip(" ").startswith(("=", "+", "@", "-"))]
 
 
 DAYS = {"1": ("'=A \"first\", of all", "2026-01-01", "2026-03-31"), "3": ("Second;'-B", "2026-04-01", "2026-06-30")}
