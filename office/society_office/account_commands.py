@@ -6,7 +6,7 @@ import sys
 import click
 
 from society_office import balances, explain_output
-from society_office.command_words import COPY_HELP, PATH, POOL, POOLS_HELP, noted
+from society_office.command_words import COPY_HELP, PATH, POOL, POOLS_HELP, Command, noted
 from society_office.errors import OfficeError
 from society_office.explaining import Explainer
 from society_office.numbering import as_sent, rank_of
@@ -36,7 +36,7 @@ def write_stored(body: bytes, output: pathlib.Path | None) -> None:
         sys.stdout.buffer.write(body)
 
 
-@click.command(epilog=COPY_HELP, short_help="How an account's credits came about.")
+@click.command(cls=Command, epilog=COPY_HELP, short_help="How an account's credits came about.")
 @click.argument("copy", type=PATH)
 @click.argument("account")
 @click.option("--pool", type=POOL, required=True, metavar="POOL", help="The pool.")
@@ -70,7 +70,7 @@ def explain(
     write_out(explain_output.FORMS[form](found, names), output)
 
 
-@click.command("balances", epilog=COPY_HELP, short_help="What each account has, by pool and right.")
+@click.command("balances", cls=Command, epilog=COPY_HELP, short_help="What each account has, by pool and right.")
 @click.argument("copy", type=PATH)
 @click.option("--format", "form", type=click.Choice(["csv", "json", "ledger"]), default="csv", help="How it is written.")
 @click.option("--output", type=PATH, help="The file to write; without it, standard output.")
@@ -87,7 +87,7 @@ def list_balances(copy: pathlib.Path, form: str, output: pathlib.Path | None, po
     write_out(text, output)
 
 
-@click.command(epilog=COPY_HELP, short_help="The bytes of a return.")
+@click.command(cls=Command, epilog=COPY_HELP, short_help="The bytes of a return.")
 @click.argument("copy", type=PATH)
 @click.argument("name", metavar="REPORTER/N")
 @click.option("--output", type=PATH, help="The file to write; without it, standard output.")
@@ -101,7 +101,7 @@ def returned(copy: pathlib.Path, name: str, output: pathlib.Path | None) -> None
     write_stored(bytes(row[0]), output)
 
 
-@click.command("file", epilog=COPY_HELP, short_help="The bytes of a file of works.")
+@click.command("file", cls=Command, epilog=COPY_HELP, short_help="The bytes of a file of works.")
 @click.argument("copy", type=PATH)
 @click.argument("sender")
 @click.argument("number", metavar="N")

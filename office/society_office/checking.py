@@ -13,7 +13,7 @@ from society_office.fields import ACK_NUMBER, ACK_TITLE, MAX_BODY, WorkFault
 from society_office.numbering import FILE_NAME, as_sent, number_in, path_of, rank_in, segment_of, segment_text
 from society_office.plays import BOM
 from society_office.program import Answer
-from society_office.records import text
+from society_office.records import shown_number, text
 from society_office.return_faults import looks_like_return, return_faults
 from society_office.return_names import LAST_NUMBER
 from society_office.work_faults import CheckedWork, Fault, first_warnings, warned
@@ -275,7 +275,8 @@ def ask_verdicts(office: Asked, sender: str, it: Sent) -> None:
     for work, verdict in zip(it.own.works, it.verdicts):
         own, told = least(work), verdict.get("fault")
         if own != told and not (own is None and told in OF_THE_LINE):
-            it.differs.append(f"{work.number}: our own reading finds {named(own)}, the program {named(told)}: the program is right")
+            which = shown_number(work.number)
+            it.differs.append(f"{which}: our own reading finds {named(own)}, the program {named(told)}: the program is right")
 
 
 def is_of_verdicts(found: Any) -> bool:

@@ -14,7 +14,7 @@ import click
 
 from society_office import __version__, account_commands, checking, health, money_commands, parties, signals, standby_commands
 from society_office import statement_output, why
-from society_office.command_words import COPY_HELP, NUMBER, PATH, POOL, POOLS_HELP, PROGRAM_HELP, VOID_HELP, WRONG, fail
+from society_office.command_words import COPY_HELP, NUMBER, PATH, POOL, POOLS_HELP, PROGRAM_HELP, VOID_HELP, WRONG, Command, fail
 from society_office.command_words import noted, void_list
 from society_office.copy import beside
 from society_office.errors import OfficeError
@@ -68,7 +68,7 @@ def main() -> None:
     gc.set_threshold(MOST_NEW)
 
 
-@main.command(epilog=COPY_HELP, short_help="What an account was credited, and for which works.")
+@main.command(cls=Command, epilog=COPY_HELP, short_help="What an account was credited, and for which works.")
 @click.argument("copy", type=PATH)
 @click.argument("key", required=False)
 @click.option("--since", type=POOL, default=1, metavar="POOL", help="Only the pools from this number on.")
@@ -106,6 +106,10 @@ def statement(
         raise click.UsageError("give a KEY, or --all without one")
     if everybody != (into is not None):
         raise click.UsageError("--all and --into belong together")
+    if everybody and (form != "table" or output):
+        raise click.UsageError("--format and --output are of one statement: --all writes pages and CSV, with --pdf also PDF")
+    if pdf and not everybody:
+        raise click.UsageError("--pdf belongs to --all: one statement is a PDF by --format pdf")
     if form == "pdf" and output is None:
         raise click.UsageError("a PDF needs --output FILE")
     names = pool_names(copy, pools)
@@ -123,7 +127,7 @@ def statement(
         fail(f"{found.key} has credits of {found.total:,} units, and a balance of {found.balance:,}: ask `society audit` about the copy")
 
 
-@main.command("parties", epilog=COPY_HELP, short_help="The names of accounts.")
+@main.command("parties", cls=Command, epilog=COPY_HELP, short_help="The names of accounts.")
 @click.argument("copy", type=PATH)
 @click.option("--format", "form", type=click.Choice(["csv", "json"]), default="csv", help="How it is written.")
 @click.option("--output", type=PATH, help="The file to write; without it, standard output.")

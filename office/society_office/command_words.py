@@ -22,6 +22,18 @@ class Number(click.FloatRange):
         return found if math.isfinite(found) else self.fail(f"{value} is no number.", param, ctx)
 
 
+class Command(click.Command):
+    """A command whose options are given once each, but for those that can be given again: of two amounts none is meant."""
+
+    def parse_args(self, ctx: click.Context, args: list[str]) -> list[str]:
+        """Reads the words; a UsageError where an option with a value is given twice."""
+        _, _, given = self.make_parser(ctx).parse_args(list(args))
+        for it in given:
+            if isinstance(it, click.Option) and not it.is_flag and not it.multiple and given.count(it) > 1:
+                raise click.UsageError(f"{it.opts[-1]} is given twice", ctx)
+        return super().parse_args(ctx, args)
+
+
 WRONG = 1
 NUMBER = Number(0, 1_000_000)
 PATH = click.Path(path_type=pathlib.Path)

@@ -6,7 +6,7 @@ import sys
 import click
 
 from society_office import correct_output, correcting, order_output, orders, parties, rehearsal, rehearsal_output, settling_output
-from society_office.command_words import COPY_HELP, PATH, POOL, PROGRAM_HELP, VOID_HELP, WRONG, fail, noted, void_list
+from society_office.command_words import COPY_HELP, PATH, POOL, PROGRAM_HELP, VOID_HELP, WRONG, Command, fail, noted, void_list
 from society_office.copy import Copy
 from society_office.errors import OfficeError
 from society_office.numbering import ranges
@@ -18,7 +18,7 @@ from society_office.terminal import console, say
 from society_office.unclaimed import Unclaimed, as_json
 
 
-@click.command(epilog=COPY_HELP, short_help="Why money went to nobody.")
+@click.command(cls=Command, epilog=COPY_HELP, short_help="Why money went to nobody.")
 @click.argument("copy", type=PATH)
 @click.option("--pool", type=POOL, metavar="POOL", help="Only this pool.")
 @click.option("--format", "form", type=click.Choice(["table", "json"]), default="table", help="How it is written.")
@@ -57,7 +57,7 @@ def refuse_unknown(copy: Copy, pool: int) -> None:
         raise OfficeError(f"pool {pool} is not closed; closed are {ranges(copy.pools(), 20) or 'none'}")
 
 
-@click.command(epilog=COPY_HELP, short_help="An order over all that can be paid.")
+@click.command(cls=Command, epilog=COPY_HELP, short_help="An order over all that can be paid.")
 @click.argument("copy", type=PATH)
 @click.option("--amount", type=int, required=True, help="The units of the pool.")
 @click.option(
@@ -104,7 +104,7 @@ def propose(
         say(found.json)
 
 
-@click.command(epilog=COPY_HELP, short_help="What an order would do, before it is sent.")
+@click.command(cls=Command, epilog=COPY_HELP, short_help="What an order would do, before it is sent.")
 @click.argument("copy", type=PATH)
 @click.argument("order", type=PATH)
 @click.option("--pool", type=POOL, metavar="POOL", help="The pool's number (default: the next free one).")
@@ -132,7 +132,7 @@ def rehearse(copy: pathlib.Path, order: pathlib.Path, pool: int | None, void: pa
             sys.exit(WRONG)
 
 
-@click.command(epilog=COPY_HELP, short_help="What a mistaken order paid wrong, and how to put it right.")
+@click.command(cls=Command, epilog=COPY_HELP, short_help="What a mistaken order paid wrong, and how to put it right.")
 @click.argument("copy", type=PATH)
 @click.argument("pool", type=POOL)
 @click.option("--amount", type=click.IntRange(0, orders.LARGEST_AMOUNT), help="The units as they should have been.")

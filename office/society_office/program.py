@@ -21,6 +21,7 @@ from society_office import signals
 from society_office.copy import Copy, open_copy
 from society_office.errors import OfficeError
 from society_office.numbering import LAST_RANK, rank_of
+from society_office.plain_text import printable
 from society_office.soundness import BROKEN, CURE, need_sound
 
 CHECKOUT = pathlib.Path(__file__).resolve().parent.parent.parent
@@ -29,8 +30,9 @@ START, ANSWER = 600, 600
 MANY = 1_000_000
 # What stands in no name of a host.
 UNPRINTED = re.compile(r"[\x00-\x20\x7f]")
-# An office answers so to what it takes, or has already.
+# An office answers so to what it takes, or has already, and tells one of these states.
 TAKEN = (200, 201, 202)
+STATES = ("applied", "held", "ended", "stored", "closed")
 
 
 def program_of_the_checkout() -> str | None:
@@ -86,7 +88,7 @@ class Answer:
     @property
     def is_taken(self) -> bool:
         """Whether an office has what was sent: it then tells a state, which a page that answers in its place does not."""
-        return self.status in TAKEN and "state" in self.told
+        return self.status in TAKEN and self.told.get("state") in STATES
 
     def fault(self, where: str) -> tuple[int, int] | None:
         """The fault of what was sent, and its `line` or `row`; None where none is told."""
@@ -164,7 +166,7 @@ class Office:
             return Answer(answer.status, answer.read())
         except (OSError, ValueError, http.client.HTTPException) as error:
             self.connection.close()
-            raise OfficeError(f"no answer from {self.address}: {error}") from error
+            raise OfficeError(f"no answer from {self.address}: {printable(str(error).strip())}") from error
 
     def wait_for(self, seconds: float) -> None:
         """From now on an office that says nothing for so many seconds gives no answer."""

@@ -6,6 +6,7 @@ from collections.abc import Iterable, Iterator, Sequence
 
 from society_office.copy import Copy
 from society_office.fields import IPI_DIGITS, ISRC, PARTIES, RECORD_TYPE, SENDER_NAME, TITLE, WORK_NUMBER, WORKS
+from society_office.plain_text import printable
 
 GROUP = re.compile(rb"\nGRH(%s)[^\n]*" % b"|".join(WORKS))
 GROUP_END = b"\nGRT"
@@ -16,14 +17,17 @@ RECORDING = re.compile(rb"\nREC[^\n]{%d}([A-Z0-9]{12})" % (ISRC.first - RECORD_T
 UNCLAIMED = "UNCLAIMED"
 
 
-def text(raw: bytes) -> str:
-    """A field as people read it: UTF-8 where it is that, else a letter a byte; no blanks at its ends, `?` for what has no form."""
+def decoded(raw: bytes) -> str:
+    """A field in letters: UTF-8 where it is that, else a letter a byte."""
     try:
-        found = raw.decode("utf-8")
+        return raw.decode("utf-8")
     except UnicodeDecodeError:
-        found = raw.decode("latin-1")
-    found = found.strip()
-    return found if found.isprintable() else "".join(it if it.isprintable() else "?" for it in found)
+        return raw.decode("latin-1")
+
+
+def text(raw: bytes) -> str:
+    """A field as people read it: no blanks at its ends, `?` for what has no form."""
+    return printable(decoded(raw).strip())
 
 
 @dataclasses.dataclass(frozen=True)
@@ -117,6 +121,11 @@ def title_of(first: bytes) -> str:
 def number_of(first: bytes) -> str:
     """The work number in the first line of a registration or revision, as it is registered."""
     return WORK_NUMBER.of(first.rstrip(b"\r")).rstrip(b" ").decode("latin-1")
+
+
+def shown_number(number: str) -> str:
+    """A work number as people read it: that of a rejected work may have any bytes."""
+    return printable(decoded(number.encode("latin-1")))
 
 
 class Works:

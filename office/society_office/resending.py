@@ -9,6 +9,7 @@ from society_office.asking import Connections, Request
 from society_office.copy import Copy
 from society_office.errors import OfficeError
 from society_office.numbering import Line, path_of, rank_in, segment_of, segment_text
+from society_office.plain_text import printable
 from society_office.program import Answer
 
 END, FILE, RETURN, ORDER = "end", "file", "return", "order"
@@ -69,7 +70,7 @@ def why(it: Request, answer: Answer) -> str:
     """Why a request was refused."""
     if answer.status == 404:
         return NO_SUCH_PATH
-    return WHY.get((it.kind, answer.error)) or f"status {answer.status}, {answer.body[:80].decode(errors='replace').strip()}"
+    return WHY.get((it.kind, answer.error)) or f"status {answer.status}, {printable(answer.body[:80].decode(errors='replace').strip())}"
 
 
 def ends(copy: Copy) -> Iterator[Request]:

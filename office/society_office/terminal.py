@@ -15,6 +15,8 @@ from rich.status import Status
 from rich.table import Table
 from rich.text import Text
 
+from society_office.plain_text import printable
+
 # The width where the output is no terminal, as in a pipe or a file.
 PLAIN_WIDTH = 140
 
@@ -70,8 +72,8 @@ def table(columns: Sequence[str], rows: Iterable[Sequence[object]], numbers: Seq
 
 
 def say(line: str, error: bool = False) -> None:
-    """Writes a line, as it is and however long."""
-    click.echo(line, err=error)
+    """Writes a line, however long, or several; `?` stands for what would steer the terminal, as an answer of what is no office may."""
+    click.echo("\n".join(map(printable, line.split("\n"))), err=error)
 
 
 @contextlib.contextmanager

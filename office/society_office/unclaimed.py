@@ -10,7 +10,7 @@ from typing import Any, NamedTuple
 from society_office.claims import Claim, Claims
 from society_office.copy import Copy
 from society_office.numbering import as_sent
-from society_office.records import UNCLAIMED, Transaction, Works, transactions
+from society_office.records import UNCLAIMED, Transaction, Works, shown_number, transactions
 from society_office.shares import holders, nobodys, percent_text, shares_text
 
 NO_RECORDING = "-"
@@ -199,7 +199,7 @@ def note(
 ) -> None:
     """Adds the recordings of some works, which are no works of the office, with why they are none."""
     for it in listed:
-        claimant = Claimant(sender, it.work, it.title, as_sent(number))
+        claimant = Claimant(sender, shown_number(it.work), it.title, as_sent(number))
         for isrc in it.isrcs:
             had = found.get(isrc, (why, ()))
             found[isrc] = (had[0], (*had[1], claimant))

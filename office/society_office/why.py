@@ -9,7 +9,7 @@ from society_office.copy import Copy
 
 from society_office.errors import OfficeError
 from society_office.numbering import Line, as_sent, counted, ranges, segment_text
-from society_office.records import sender_names, transactions
+from society_office.records import sender_names, shown_number, transactions
 from society_office.work_faults import UTF_8, CheckedWork, checked_work, first_warnings, warned
 
 
@@ -102,7 +102,8 @@ def rejected_of(
     found = []
     for place, fault in bad:
         it = checked_work(body, works[place], copy.territory)
-        found.append(Rejected(number, place, it.number, it.title, fault, it, since_text(registered.get(it.number, []), number)))
+        since = since_text(registered.get(it.number, []), number)
+        found.append(Rejected(number, place, shown_number(it.number), it.title, fault, it, since))
     return found
 
 

@@ -24,7 +24,7 @@ from society_office.fields import (
     WorkFault,
 )
 from society_office.numbering import counted
-from society_office.records import Transaction, number_of, text
+from society_office.records import Transaction, number_of, shown_number, text
 from society_office.shares import holders_of, share
 
 # A letter that takes two bytes or more in UTF-8.
@@ -221,7 +221,7 @@ def ipi_text(line: bytes) -> str:
 
 def warned(work: CheckedWork) -> Iterator[str]:
     """What may be wrong with a work, under its number and title."""
-    yield from (f"warning: {work.number.strip()} {work.title}, {it}" for it in work.warnings)
+    yield from (f"warning: {shown_number(work.number).strip()} {work.title}, {it}" for it in work.warnings)
 
 
 def first_warnings(listed: Sequence[str]) -> Iterator[str]:

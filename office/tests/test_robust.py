@@ -1,5 +1,6 @@
 """No traceback and nothing half done, whatever a command is given: streams, locales, damaged copies, files that are none."""
 
+import json
 import os
 import pathlib
 import signal
@@ -11,14 +12,15 @@ import time
 import office_value
 import pytest
 import quarter
-from conftest import ROOT, made, running
+from conftest import ROOT, further, made, running
 from office_value import File, Step
-from society_office import book_log, pages, signals
+from society_office import book_log, pages, resending, signals
 from society_office.copy import open_copy
 from society_office.errors import OfficeError
 from society_office.page_sums import changed
-from society_office.program import Office, free_port
+from society_office.program import Answer, Office, free_port
 from society_office.soundness import need_sound
+from society_office.terminal import say
 from test_checks import FIRST
 from test_statements import run
 
@@ -206,6 +208,54 @@ def test_two_commands_that_write_one_folder(copy: pathlib.Path, tmp_path: pathli
 def test_words_that_name_nothing(copy: pathlib.Path, words: list[object], status: int, said: str) -> None:
     # (told with status 2 to standard error, and not as what health finds wrong)
     assert said in run(*(copy if it == "{}" else it for it in words), status=status)
+
+
+@pytest.mark.parametrize(
+    "words, said",
+    [
+        (["propose", "--amount", 5, "--amount", 6], "--amount is given twice"),
+        (["statement", "I00000000295", "--since", 2, "--since", 1], "--since is given twice"),
+        (["correct", 1, "--kind", "PR", "--kind", "MR"], "--kind is given twice"),
+        (["statement", "--all", "--into", "all", "--format", "csv"], "--format and --output are of one statement"),
+        (["statement", "--all", "--into", "all", "--output", "it.csv"], "--format and --output are of one statement"),
+        (["statement", "I00000000295", "--pdf"], "--pdf belongs to --all"),
+    ],
+)
+def test_words_of_which_one_would_not_count(copy: pathlib.Path, words: list[object], said: str) -> None:
+    assert said in run(words[0], copy, *words[1:], status=2)
+
+
+def test_words_that_may_be_given_again(copy: pathlib.Path) -> None:
+    words = ["--returns", "RADIO1/4", "--returns", "TV1/1", "--cut", f"{quarter.ALPHA}=1", "--cut", f"{quarter.DELTA}=0"]
+    found = json.loads(run("propose", copy, "--amount", 5, "--kind", "MR", *words))
+    cut = dict(found["cut"])
+    assert found["returns"] == [["RADIO1", 4], ["TV1", 1]] and cut[quarter.ALPHA] == 1 and quarter.DELTA not in cut
+
+
+STEERING = "W\x1b[2J\u202e"
+
+
+def test_nothing_that_was_sent_steers_a_terminal(tmp_path: pathlib.Path, program: str) -> None:
+    # (a work whose number is refused for what stands in it)
+    title = "FIRST\u202e SONG\x07".encode().ljust(16)
+    body = FIRST.replace(b"W1".ljust(10), STEERING.encode().ljust(10)).replace(b"FIRST SONG".ljust(16), title)
+    copy = made(program, office_value.Office({}, []), tmp_path)
+    steps = [(f"/senders/{quarter.ALPHA}/transmissions/1", body), ("/returns/RADIO1/1", b"isrc,plays,seconds\nATABC2600001,1,1\n")]
+    steps.append(("/pools/1", b'{"amount":5,"cut":[],"returns":[["RADIO1",1]]}'))
+    copy = further(program, copy, steps, tmp_path / "then.db")
+    told = run("why", copy, quarter.ALPHA) + run("unclaimed", copy) + run("unclaimed", copy, "--format", "json")
+    run("site", copy, "--into", tmp_path / "site")
+    told += "".join(it.read_text() for it in (tmp_path / "site").rglob("*") if it.suffix in (".csv", ".html"))
+    assert told.count("W?[2J?") >= 5 and "FIRST? SONG?" in told
+    assert all(it.isprintable() for it in told.split("\n"))
+
+
+def test_nothing_that_is_answered_steers_a_terminal(capsys: pytest.CaptureFixture[str]) -> None:
+    say(f"one{STEERING}\ntwo\r")
+    assert capsys.readouterr().out == "oneW?[2J?\ntwo?\n"
+    told = resending.why(resending.Request(resending.ORDER, "pools/1", b""), Answer(500, STEERING.encode() + b"\nA"))
+    assert told == "status 500, W?[2J??A"
+    assert not Answer(200, b'{"state":7}').is_taken and Answer(201, b'{"state":"closed"}').is_taken
 
 
 def test_a_folder_in_the_place_of_the_offices_file(copy: pathlib.Path, monkeypatch: pytest.MonkeyPatch) -> None:
