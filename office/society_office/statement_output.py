@@ -14,7 +14,7 @@ from society_office.pool_names import PoolNames
 from society_office.statements import Statement, Statements, Sum, as_csv, folder_of
 from society_office.terminal import console, counting, say, table
 
-# A page of a statement shows no more lines and works than this; its CSV has them all.
+# A page of a statement shows no more lines, works and accounts than this; its CSV has them all.
 MOST_LINES = 2_000
 CSV_NAME = "statement.csv"
 # Where lines are too many to be printed, so many of the greatest works and accounts are.
@@ -29,8 +29,10 @@ def heading(found: Statement) -> str:
 def verdict(found: Statement) -> str:
     """What the statement comes to, beside the balance."""
     part = "" if found.is_whole else f" by the pools from {found.since} on"
+    if not found.sums.count and found.is_whole:
+        return "no credit: no pool has credited " + ("a work of this sender" if found.is_of_publisher else "this account")
     if not found.sums.count:
-        return f"no credit{part}: no pool has credited " + ("a work of this sender" if found.is_of_publisher else "this account")
+        return f"no credit{part}" + ("" if found.balance is None else f"; the balance over all pools is {found.balance:,}")
     if found.balance is None:
         return f"{found.total:,} units in all{part}, over all accounts"
     if not found.is_whole:
@@ -100,6 +102,7 @@ def as_page(found: Statement, names: PoolNames, taken: float, beside: str = "") 
         pool_names=names,
         lines=found.credits[:MOST_LINES],
         works=found.by_work[:MOST_LINES],
+        accounts=found.by_account[:MOST_LINES],
         beside=beside,
         verdict=verdict(found),
         heading=heading(found),

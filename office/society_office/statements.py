@@ -13,7 +13,7 @@ from typing import NamedTuple, TextIO
 from society_office.claims import Claim, Claims
 from society_office.copy import Copy
 from society_office.errors import OfficeError
-from society_office.lines import COLUMNS, NO_RECORDING, Credit, Lines, Pools, Sums, sums_of
+from society_office.lines import COLUMNS, NO_RECORDING, NO_WORK, Credit, Lines, Pools, Sums, sums_of
 from society_office.many_lines import ManyLines
 from society_office.parties import names_of, parties
 from society_office.plain_text import plain
@@ -88,6 +88,11 @@ class Statement:
         return greatest_first(self.sums.by_work.items())
 
     @property
+    def works(self) -> int:
+        """How many works it has, whatever titles they had; what stands without a work is none."""
+        return len({it.words[1:] for it in self.by_work} - {NO_WORK[1:]})
+
+    @functools.cached_property
     def by_account(self) -> list[Sum]:
         """The units by account, the greatest first."""
         return greatest_first(((account,), units) for account, units in self.sums.by_account.items())

@@ -190,6 +190,29 @@ def test_a_large_statement_since_a_pool(copy: pathlib.Path, key: str, since: int
     )
 
 
+def test_pools_that_credited_nothing_to_an_account(copy: pathlib.Path) -> None:
+    balance = reckoning.balances(quarter.OFFICE)["I00000000295"]
+    assert f"no credit by the pools from 9 on; the balance over all pools is {balance:,}" in run(
+        "statement", copy, "I00000000295", "--since", 9
+    )
+    assert "None of these pools has credited this account." in run("statement", copy, "I00000000295", "--since", 9, "--format", "html")
+    assert run("statement", copy, quarter.ALPHA, "--since", 9).endswith("no credit by the pools from 9 on\n")
+
+
+def test_a_page_tells_how_many_accounts_it_leaves_out(copy: pathlib.Path, monkeypatch: pytest.MonkeyPatch) -> None:
+    monkeypatch.setattr(statement_output, "MOST_LINES", 2)
+    accounts = {it[6] for it in earned_by(quarter.ALPHA)}
+    assert len(accounts) > 2
+    assert f"{len(accounts) - 2} more accounts with less" in run("statement", copy, quarter.ALPHA, "--format", "html")
+
+
+def test_a_page_counts_works(copy: pathlib.Path) -> None:
+    for key in ("UNCLAIMED", quarter.BETA, "I00000000295"):
+        listed = earned_by(key) if key in quarter.NAMES else lines_by(key)
+        works = {it[4:6] for it in listed if it[5]}
+        assert f"<dt>works</dt><dd>{len(works)}</dd>" in run("statement", copy, key, "--format", "html")
+
+
 def test_a_balance_that_differs_is_said(copy: pathlib.Path) -> None:
     with changed(copy) as database:
         database.execute("UPDATE balances SET units = units + 1 WHERE account = 'I00000000295'")
