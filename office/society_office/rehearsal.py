@@ -1,5 +1,7 @@
 """An order rehearsed: the program closes the pool over a throw-away office, and what is odd about the order is told."""
 
+import codecs
+import collections
 import contextlib
 import dataclasses
 import json
@@ -11,6 +13,7 @@ from society_office.copy import Copy, open_copy
 from society_office.follow_ups import SETTLED
 from society_office.numbering import as_sent, rank_of
 from society_office.orders import free_pool
+from society_office.plays import BOM
 from society_office.program import Answer, trial_of
 from society_office.return_names import Entry, Return, are_listed, names_text
 from society_office.settling import is_open
@@ -46,16 +49,31 @@ def rehearse(program: str, copy: Copy, order: bytes, pool: int | None, void: Seq
         answer = trial.office.ask("PUT", f"/v1/pools/{number}", order)
         trial.end()
         if answer.status not in (REPEATED, NEW):
-            yield Rehearsal(number, answer, faults.refusal_text("order", answer))
+            yield Rehearsal(number, answer, faults.refusal_text("order", answer) + mark_hint(order))
             return
         with open_copy(trial.database) as then:
             given = json.loads(order)
             stored = before(stored_returns(copy), number)
             named = [stored[reporter, which] for reporter, which in sorted(given["returns"])]
-            notes = list(notes_on_returns(then, number, given, named, stored, void))
+            notes = [*notes_on_keys(order), *notes_on_returns(then, number, given, named, stored, void)]
             if not is_own(named):
                 notes += [*notes_on_left(named, stored, void), *notes_on_cut(copy, given["cut"])]
             yield Rehearsal(number, answer, "", then, named, notes)
+
+
+def mark_hint(order: bytes) -> str:
+    """What is to be said of an order that was refused and begins with what an editor puts before a text; the empty text of others."""
+    is_marked = order.startswith((BOM, codecs.BOM_UTF16_LE, codecs.BOM_UTF16_BE))
+    return "; a byte order mark stands before it: save it as UTF-8 without one" if is_marked else ""
+
+
+def notes_on_keys(order: bytes) -> Iterator[str]:
+    """The keys that stand twice in an order: the program takes the last one without a word."""
+    keys: list[str] = []
+    json.loads(order, object_pairs_hook=lambda pairs: keys.extend(key for key, _ in pairs))
+    for key, count in collections.Counter(keys).items():
+        if count > 1:
+            yield f"{key} stands {'twice' if count == 2 else f'{count} times'} in the order, and the last one counts: take the others out"
 
 
 def before(stored: Mapping[Return, Stored], pool: int) -> dict[Return, Stored]:

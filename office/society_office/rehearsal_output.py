@@ -49,12 +49,12 @@ def return_rows(returns: Sequence[Stored]) -> Iterator[tuple[str, str, int, int,
 def show(out: Console, it: Rehearsal, pools: PoolNames) -> None:
     """Prints what an order would credit, and what would stay unclaimed."""
     if it.copy is None:
-        out.print(f"REFUSED, status {it.answer.status}: {it.refusal}")
+        out.print(f"REFUSED, status {it.answer.status}: {it.refusal}", soft_wrap=True)
         return
     names, listed, amount = names_of(parties(it.copy)), credited(it.copy, it.pool), it.copy.pools()[it.pool]
     out.print(heading(it, it.copy, pools, len(listed)))
     for note in it.notes:
-        out.print(f"note: {note}")
+        out.print(f"note: {note}", soft_wrap=True)
     if it.returns:
         out.print()
         columns = ["station", "returns", "rows", "points", "part"]

@@ -1,5 +1,6 @@
 """An order rehearsed: what is odd about it, what it would credit, and whether it is a new one."""
 
+import codecs
 import json
 import pathlib
 
@@ -81,6 +82,23 @@ def test_what_is_void_and_what_is_left_out(office: pathlib.Path, program: str, t
     assert f"the cut counts {quarter.BETA} up to 1, and its files are applied up to 26-0002" in found
     assert f"the cut does not count {quarter.DELTA}, whose files are applied up to 2" in found
     assert "it names no return with a play: all of it goes to UNCLAIMED" in found
+
+
+def test_a_key_that_stands_twice(office: pathlib.Path, program: str, tmp_path: pathlib.Path) -> None:
+    file = tmp_path / "order.json"
+    file.write_text('{"amount":1,"amount":7,"cut":[],"cut":[],"cut":[["PB000000012",1]],"returns":[["RADIO3",1]]}')
+    said = run("rehearse", office, file, "--program", program)
+    assert "closed with 7 units" in said
+    assert "note: amount stands twice in the order, and the last one counts: take the others out\n" in said
+    assert "note: cut stands 3 times in the order" in said and "returns stands" not in said
+
+
+@pytest.mark.parametrize("mark, hint", [(codecs.BOM_UTF8, True), (codecs.BOM_UTF16_LE, True), (b"", False)])
+def test_an_order_that_is_refused(office: pathlib.Path, program: str, tmp_path: pathlib.Path, mark: bytes, hint: bool) -> None:
+    (tmp_path / "order.json").write_bytes(mark + b'{"amount":-1,"cut":[],"returns":[]}')
+    said = run("rehearse", office, tmp_path / "order.json", "--program", program, status=1, out=True)
+    assert said.startswith("REFUSED, status 422: order fault 1: ") and said.count("\n") == 1
+    assert ("a byte order mark stands before it" in said) == hint
 
 
 def test_a_repeat_is_no_new_pool(office: pathlib.Path, program: str) -> None:
