@@ -37,7 +37,7 @@ def show(out: Console, it: Correction, names: Mapping[str, str], pools: PoolName
     """Prints who lacks what, who got too much, and what is to be done about it."""
     out.print(f"{pool_text(pools, it.pool)} as it should have been:")
     for remark in it.remarks:
-        out.print(f"- {remark}")
+        out.print(f"- {remark}", soft_wrap=True)
     out.print()
     differ = [one for one in it.lines if one.right != one.paid]
     if not differ:

@@ -35,11 +35,17 @@ def printed(listed: list[Item]) -> list[Item]:
     return listed if len(listed) <= MOST_ROWS else heapq.nlargest(MOST_ROWS, listed, key=lambda it: it.units)
 
 
+def of_what(cause: Cause, listed: list[Item]) -> str:
+    """Of how many recordings units are, each counted once however many pools had it; of those without plays of how many pools."""
+    if cause is Cause.NO_PLAYS:
+        return counted(len(listed), "pool")
+    return counted(len({it.isrc for it in listed}), "recording")
+
+
 def show_unclaimed(out: Console, items: list[Item], amounts: dict[int, int], rest: str) -> None:
     """Prints unclaimed money by cause, and its sums by pool; `rest` says where the items are that are too many to be printed."""
     for cause, listed in by_cause(items).items():
-        units = sum(it.units for it in listed)
-        out.print(f"{cause.value}: {units:,} units, {counted(len(listed), 'recording')}")
+        out.print(f"{cause.value}: {counted(sum(it.units for it in listed), 'unit')}, {of_what(cause, listed)}")
         out.print(CURES[cause])
         if len(listed) > MOST_ROWS:
             out.print(f"the greatest {MOST_ROWS:,} of {len(listed):,} stand here: {rest}")

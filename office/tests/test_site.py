@@ -5,9 +5,10 @@ import re
 
 import quarter
 import reckoning
-from conftest import ROOT
+from conftest import ROOT, further
 from society_office.copy import open_copy
 from society_office.site import Site
+from society_office.unclaimed import Cause, Unclaimed
 from test_statements import run
 
 COMMANDS = (
@@ -25,6 +26,21 @@ def test_the_parts_of_a_pool(copy: pathlib.Path) -> None:
             wanted[CAUSES[cause]] += units
             wanted["paid"] -= units
         assert (pools[pool].parts, pools[pool].right, pools[pool].amount) == (wanted, right, amount)
+
+
+def test_a_recording_is_counted_once(copy: pathlib.Path, tmp_path: pathlib.Path, program: str) -> None:
+    steps = [("/returns/RADIO7/" + it, b"isrc,plays,seconds\nZZZZZ2600001,1,1\n") for it in "12"]
+    steps += [("/pools/" + it, b'{"amount":5,"cut":[],"returns":[["RADIO7",%s]]}' % it[1:].encode()) for it in ("71", "72")]
+    steps.append(("/pools/73", b'{"amount":1,"cut":[],"returns":[]}'))
+    office = further(program, copy, steps, tmp_path / "then.db")
+    with open_copy(office) as opened:
+        found = [it for it in Unclaimed(opened).items() if it.cause is Cause.NOBODY]
+    recordings, units = {it.isrc for it in found}, sum(it.units for it in found)
+    assert len(recordings) < len(found)
+    said = run("unclaimed", office)
+    assert f"nobody has the recording: {units:,} units, {len(recordings)} recording" in said
+    assert "no plays: 13 units, 2 pools" in said
+    assert "no plays: 1 unit, 1 pool\n" in run("unclaimed", office, "--pool", 73)
 
 
 def test_the_pages(copy: pathlib.Path, tmp_path: pathlib.Path) -> None:
