@@ -27,6 +27,8 @@ NUMBERS = (
 )
 # What a file of works is named, and lines that only such a file has.
 WORKS_NAME, WORKS_LINE = re.compile(r"\.(cwr|v2[12])$", re.IGNORECASE), re.compile(rb"^(GRH[A-Z]{3}|TRL)[0-9]{5}", re.MULTILINE)
+# Letters that are shown of what is wrong.
+MOST_SHOWN = 60
 CELL_ERRORS = ("#N/A", "#REF!", "#VALUE!", "#NAME?", "#DIV/0!")
 
 
@@ -91,10 +93,10 @@ def row_faults(row: int, cells: list[str]) -> Iterator[Fault]:
     """The faults of a row of data."""
 
     def fault(number: int, field: str, found: str, hint: str) -> Fault:
-        return Fault("return", number, row, "row", field, text(found.encode("latin-1")), hint)
+        return Fault("return", number, row, "row", field, text(found[:MOST_SHOWN].encode("latin-1")), hint)
 
     if len(cells) != len(HEADER):
-        yield fault(ReturnFault.FIELDS, f"{len(cells)} fields", ",".join(cells)[:60], row_hint(cells))
+        yield fault(ReturnFault.FIELDS, f"{len(cells)} fields", ",".join(cells), row_hint(cells))
         return
     isrc, plays, seconds = cells
     if not any(cells):
@@ -120,7 +122,7 @@ def return_faults(body: bytes) -> list[Fault]:
                 1,
                 "row",
                 "header",
-                text(first_line(body)[:60]),
+                text(first_line(body)[:MOST_SHOWN]),
                 header_hint(body, header or []),
             )
         ]

@@ -270,6 +270,12 @@ def test_spreadsheets(tmp_path: pathlib.Path, program: str) -> None:
     assert "semicolons stand between" in run("check", tmp_path / "it.csv", "--program", program, status=1, out=True)
 
 
+def test_of_a_long_cell_the_beginning_is_shown(tmp_path: pathlib.Path, program: str) -> None:
+    (tmp_path / "long.csv").write_text('isrc,plays,seconds\n"' + "A" * 1_000_000 + '",1,1\n"' + "B" * 1_000 + '"\n')
+    said = run("check", tmp_path / "long.csv", "--program", program, status=1, out=True)
+    assert len(said) < 1_000 and f"'{'A' * 60}'" in said and f"'{'B' * 60}'" in said
+
+
 def test_a_file_is_checked_against_a_copy(copy: pathlib.Path, tmp_path: pathlib.Path, program: str) -> None:
     (tmp_path / "it.cwr").write_bytes(file(quarter.BETA, "BETA VERLAG", [quarter.rev("2", "AGAIN", "DEBET2600002", quarter.BETA_HOUSE)]))
     assert f"26-0003 {tmp_path}/it.cwr: applied\n  1 of 1 works accepted" in run(
