@@ -17,7 +17,7 @@ from society_office.plain_text import plain
 from society_office.pool_names import PoolNames, pool_text
 from society_office.terminal import say, table
 
-COLUMNS = ["account", "name", "right", "paid", "difference", "credited", "too much", "still missing"]
+COLUMNS = ["account", "name", "due", "paid", "difference", "credited", "too much", "still missing"]
 NUMBERS = COLUMNS[2:]
 
 

@@ -50,8 +50,8 @@ def check_table(found: list[dict[str, int]], office: Office, world: Office, pool
     assert {it["account"] for it in found} >= {*paid, *right}
     for it in found:
         name = it["account"]
-        assert (it["right"], it["paid"], it["difference"]) == (right[name], paid[name], right[name] - paid[name])
-        over = it["paid"] + it["credited"] - it["right"]
+        assert (it["due"], it["paid"], it["difference"]) == (right[name], paid[name], right[name] - paid[name])
+        over = it["paid"] + it["credited"] - it["due"]
         assert (it["too_much"], it["still_missing"]) == (max(0, over), max(0, -over))
 
 

@@ -92,7 +92,7 @@ def test_it_is_rehearsed_and_sent(copy: pathlib.Path, tmp_path: pathlib.Path, pr
     assert not (tmp_path / "again").exists()
     assert "pool 6 corrects pool 1: correct that one again" in run("correct", then, 6, "--amount", 5, status=1)
     rows = rows_of(run("correct", then, 1, "--amount", 1_000_003, "--program", program, "--format", "csv"))
-    assert sum(int(it["too_much"]) for it in rows) == 1_000_000 and list(rows[0])[:3] == ["account", "name", "right"]
+    assert sum(int(it["too_much"]) for it in rows) == 1_000_000 and list(rows[0])[:3] == ["account", "name", "due"]
 
 
 def test_returns_as_they_should_have_been(copy: pathlib.Path, program: str, tmp_path: pathlib.Path) -> None:
