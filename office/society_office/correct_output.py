@@ -11,7 +11,7 @@ from rich.console import Console
 from society_office.correcting import Correction, Line
 from society_office.follow_ups import corrects
 from society_office.numbering import counted
-from society_office.order_output import MOST_ROWS
+from society_office.order_output import MOST_ROWS, tell_older
 from society_office.pages import write_text
 from society_office.plain_text import plain
 from society_office.pool_names import PoolNames, pool_text
@@ -78,16 +78,21 @@ def as_json(it: Correction, names: Mapping[str, str]) -> str:
 
 def write(folder: pathlib.Path, it: Correction, names: Mapping[str, str]) -> None:
     """Writes the returns, the list of what is settled outside, and the orders; says where they go."""
-    reporter = corrects(it.pool)
+    reporter, written = corrects(it.pool), list[str]()
+
+    def put(ending: str, text: str) -> pathlib.Path:
+        written.append(f"{reporter}{ending}")
+        write_text(folder / written[-1], text)
+        return folder / written[-1]
+
     for number, text in it.returns:
-        write_text(folder / f"{reporter}-{number}.csv", text)
-        say(f"{folder}/{reporter}-{number}.csv goes to returns/{reporter}/{number}", error=True)
+        say(f"{put(f'-{number}.csv', text)} goes to returns/{reporter}/{number}", error=True)
     if it.outside:
-        write_text(folder / f"{reporter}-list.csv", as_csv(it.outside, names))
-        say(f"{folder}/{reporter}-list.csv lists what is settled outside", error=True)
+        say(f"{put('-list.csv', as_csv(it.outside, names))} lists what is settled outside", error=True)
     if it.unpaid:
-        write_text(folder / f"{reporter}-paid.json", it.unpaid.json + "\n")
-        say(f"{folder}/{reporter}-paid.json goes to a free pool: by its 0 units no other pool can pay these returns", error=True)
+        file = put("-paid.json", it.unpaid.json + "\n")
+        say(f"{file} goes to a free pool: by its 0 units no other pool can pay these returns", error=True)
     if it.order:
-        write_text(folder / f"{reporter}.json", it.order.json + "\n")
-        say(f"then {folder}/{reporter}.json goes to the next free pool; rehearse it over the next copy", error=True)
+        file = put(".json", it.order.json + "\n")
+        say(f"then {file} goes to the next free pool; rehearse it over the next copy", error=True)
+    tell_older(folder, [f"{reporter}.json", f"{reporter}-*"], written)

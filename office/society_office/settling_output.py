@@ -6,7 +6,7 @@ from rich.console import Console
 
 from society_office.copy import Copy
 from society_office.follow_ups import SETTLED
-from society_office.order_output import MOST_ROWS
+from society_office.order_output import MOST_ROWS, tell_older
 from society_office.pages import write_text
 from society_office.return_names import Entry
 from society_office.settling import MAY_BE_OWNED, Round, later, left_out, next_number, refuse_open, rounds
@@ -19,8 +19,8 @@ def write_rounds(copy: Copy, items: list[Item], void: list[Entry], folder: pathl
     """Writes the returns and orders that pay what has one owner now into a folder."""
     stored = stored_returns(copy)
     found = later(copy, items, stored, void)
-    for it in rounds(copy, found, next_number(stored)):
-        write_round(folder, it)
+    written = [name for it in rounds(copy, found, next_number(stored)) for name in write_round(folder, it)]
+    tell_older(folder, ["[PM]R.csv", "[PM]R-*.csv", "[PM]R.json"], written)
     if not found:
         say("nothing is left that has one owner now: nothing was written", error=True)
 
@@ -48,15 +48,16 @@ def refuse_second_round(copy: Copy, void: list[Entry]) -> None:
     refuse_open(stored_returns(copy), void, SETTLED)
 
 
-def write_round(folder: pathlib.Path, it: Round) -> None:
-    """Writes the returns and the order of a round, and says where they go."""
-    where = []
+def write_round(folder: pathlib.Path, it: Round) -> list[str]:
+    """Writes the returns and the order of a round, and says where they go; answers the names of the files."""
+    where, names = [], [f"{it.right}.json"]
     for place, (number, text) in enumerate(it.returns, 1):
-        file = folder / (f"{it.right}.csv" if place == 1 else f"{it.right}-{place}.csv")
-        write_text(file, text)
-        where.append(f"{file} goes to returns/{SETTLED}/{number}")
-    order = folder / f"{it.right}.json"
+        names.append(f"{it.right}.csv" if place == 1 else f"{it.right}-{place}.csv")
+        write_text(folder / names[-1], text)
+        where.append(f"{folder / names[-1]} goes to returns/{SETTLED}/{number}")
+    order = folder / names[0]
     write_text(order, it.order.json + "\n")
     say(f"{', '.join(where)}, then {order} to the next free pool", error=True)
     if it.left:
         say(f"{it.left:,} units more are left for a further round: an order credits no more", error=True)
+    return names

@@ -16,7 +16,7 @@ from society_office.terminal import console, counting, say, table
 
 # A page of a statement shows no more lines, works and accounts than this; its CSV has them all.
 MOST_LINES = 2_000
-CSV_NAME = "statement.csv"
+CSV_NAME, PDF_NAME = "statement.csv", "statement.pdf"
 # Where lines are too many to be printed, so many of the greatest works and accounts are.
 MOST_SUMS = 100
 
@@ -153,8 +153,12 @@ def write_each(copy: Copy, names: PoolNames, since: int, into: pathlib.Path, pdf
     with pages.locked(into.resolve()), counting("statements", copy.row("SELECT count(*) FROM balances")[0]) as advance:
         for found in statements.all(since, accounts):
             pages.write_all(into, files_of(found, names, copy.taken))
+            own = into / folder_of(found.key) / PDF_NAME
             if pdf:
-                pages.write_pdf(as_page(found, names, copy.taken, CSV_NAME), into / folder_of(found.key) / "statement.pdf")
+                pages.write_pdf(as_page(found, names, copy.taken, CSV_NAME), own)
+            else:
+                # (one of an earlier run has other sums)
+                own.unlink(missing_ok=True)
             if not found.agrees:
                 differ += 1
                 say(f"{found.key}: {verdict(found)}", error=True)

@@ -10,9 +10,11 @@ import quarter
 import random_office
 import reckoning
 from answers import rows_of
+from click.testing import CliRunner
 from conftest import further, made
 from corrections import corrected, right_order, words_for, written
 from office_value import File, Office, Pool, Return
+from society_office.cli import main
 from society_office.copy import open_copy
 from society_office.crediting import Credits, Holdings, choose, fitting, shared, wanted_of
 from society_office.settling import later
@@ -222,6 +224,18 @@ def test_a_very_small_share_takes_few_trials() -> None:
         assert units >= best - 1
     assert fitting([("A", 5_000), ("UNCLAIMED", 5_000)], 0, 100, {"A": 20}) in (40, 41)
     assert wanted_of([("A", 3_000), ("B", 7_000), ("A", 0)], {"A": 1, "UNCLAIMED": 9}) == 4
+
+
+def test_what_an_earlier_run_has_left_is_told(copy: pathlib.Path, program: str, tmp_path: pathlib.Path) -> None:
+    def said(*words: object) -> str:
+        shown = [str(it) for it in ("correct", copy, 1, *words, "--program", program, "--into", tmp_path)]
+        return CliRunner(mix_stderr=False).invoke(main, shown, catch_exceptions=False).stderr
+
+    (tmp_path / "CORRECTED10.json").write_text("of another pool")
+    assert "of an earlier run" not in said("--amount", 2_000_000)
+    assert "CORRECTED1.json" not in said("--amount", 2_500_000).partition("then ")[0]
+    assert f"CORRECTED1.json in {tmp_path} is of an earlier run" in said("--amount", 0)
+    assert f"CORRECTED1-1.csv, CORRECTED1-list.csv, CORRECTED1.json in {tmp_path} is of an earlier run" in said()
 
 
 def test_what_is_written_is_read_as_steps(copy: pathlib.Path, program: str, tmp_path: pathlib.Path) -> None:

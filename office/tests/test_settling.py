@@ -96,6 +96,8 @@ def test_both_rights_have_returns_of_their_own(copy: pathlib.Path, tmp_path: pat
         assert next_number(stored) == 3 and [it.right for it in later(opened, Unclaimed(opened).items(), stored, [])] == []
     said = CliRunner(mix_stderr=False).invoke(main, ["unclaimed", str(closed), "--settle", str(tmp_path / "again")])
     assert said.stderr == "nothing is left that has one owner now: nothing was written\n" and not (tmp_path / "again").exists()
+    said = CliRunner(mix_stderr=False).invoke(main, ["unclaimed", str(closed), "--settle", str(tmp_path / "round")])
+    assert f"MR.csv, MR.json, PR.csv, PR.json in {tmp_path / 'round'} is of an earlier run" in said.stderr
 
 
 def test_settling_is_over_all_pools(copy: pathlib.Path, tmp_path: pathlib.Path) -> None:

@@ -239,6 +239,14 @@ def test_all_statements(copy: pathlib.Path, tmp_path: pathlib.Path) -> None:
         assert sum(int(it["units"]) for it in rows) == balance
 
 
+def test_a_statement_is_not_left_beside_a_newer_one(copy: pathlib.Path, tmp_path: pathlib.Path) -> None:
+    old = tmp_path / "all/I00000000295/statement.pdf"
+    run("statement", copy, "--all", "--into", tmp_path / "all", "--pdf")
+    assert old.read_bytes().startswith(b"%PDF")
+    run("statement", copy, "--all", "--into", tmp_path / "all")
+    assert sorted(it.name for it in old.parent.iterdir()) == ["index.html", "statement.csv"]
+
+
 def test_all_statements_of_balances_that_differ(copy: pathlib.Path, tmp_path: pathlib.Path) -> None:
     with changed(copy) as database:
         database.execute("UPDATE balances SET units = units + 1 WHERE account = 'I00000000295'")
