@@ -59,7 +59,7 @@ def explain(
     got the last units. It is reckoned again from returns, works and the order; where the credits are others, that is said, with status 1.
     """
     wanted = isrc.upper().replace("-", "") if isrc and isrc != "-" else isrc
-    if wanted and not wanted.isascii():
+    if wanted is not None and not (wanted and wanted.isascii()):
         raise OfficeError(f"{isrc!r} is no ISRC: write ATABC2600001")
     names = pool_names(copy, pools)
     with open_whole(copy) as opened:

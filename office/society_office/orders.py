@@ -219,4 +219,4 @@ def refuse_empty(it: Order, wanted: Wanted) -> None:
             "no return can be named, so all of the amount would go to UNCLAIMED: no order was written (--no-returns asks for such a one)"
         )
     if not it.cut and not wanted.no_files:
-        raise OfficeError("no file is applied, so all of the amount would go to UNCLAIMED: no order was written (--no-files asks for it)")
+        raise OfficeError("no file would count, so all of the amount would go to UNCLAIMED: no order was written (--no-files asks for it)")

@@ -9,6 +9,7 @@ from rich.table import Table
 
 from society_office import pages
 from society_office.copy import Copy
+from society_office.numbering import counted
 from society_office.parties import names_of, parties
 from society_office.pool_names import PoolNames
 from society_office.statements import Statement, Statements, Sum, as_csv, folder_of
@@ -19,6 +20,8 @@ MOST_LINES = 2_000
 CSV_NAME, PDF_NAME = "statement.csv", "statement.pdf"
 # Where lines are too many to be printed, so many of the greatest works and accounts are.
 MOST_SUMS = 100
+# Statements that are named of those that an earlier run has left.
+MOST_NAMED = 5
 
 
 def heading(found: Statement) -> str:
@@ -145,24 +148,38 @@ def files_of(found: Statement, names: PoolNames, taken: float) -> Iterator[tuple
     yield f"{folder}/{CSV_NAME}", as_csv(found.credits, names)
 
 
+def write_one(found: Statement, names: PoolNames, taken: float, into: pathlib.Path, pdf: bool) -> None:
+    """Writes the folder of one of all statements."""
+    pages.write_all(into, files_of(found, names, taken))
+    file = into / folder_of(found.key) / PDF_NAME
+    if pdf:
+        pages.write_pdf(as_page(found, names, taken, CSV_NAME), file)
+    else:
+        # (one of an earlier run has other sums)
+        file.unlink(missing_ok=True)
+
+
+def tell_older(into: pathlib.Path, written: set[str]) -> None:
+    """Says which statements of an earlier run are left: those of accounts that have none now."""
+    if left := sorted({it.parent.name for it in into.glob(f"*/{CSV_NAME}")} - written):
+        some = ", ".join(left[:MOST_NAMED]) + (f" and {len(left) - MOST_NAMED:,} more" if len(left) > MOST_NAMED else "")
+        say(f"{counted(len(left), 'statement')} of an earlier run left in {into}: {some}", error=True)
+
+
 def write_each(copy: Copy, names: PoolNames, since: int, into: pathlib.Path, pdf: bool) -> int:
     """Writes the statements of all accounts and publishers; the status is 1 where one differs from its balance."""
     statements = Statements(copy)
     accounts = names_of(parties(copy))
-    count = differ = 0
+    differ, written = 0, set[str]()
     with pages.locked(into.resolve()), counting("statements", copy.row("SELECT count(*) FROM balances")[0]) as advance:
         for found in statements.all(since, accounts):
-            pages.write_all(into, files_of(found, names, copy.taken))
-            own = into / folder_of(found.key) / PDF_NAME
-            if pdf:
-                pages.write_pdf(as_page(found, names, copy.taken, CSV_NAME), own)
-            else:
-                # (one of an earlier run has other sums)
-                own.unlink(missing_ok=True)
+            write_one(found, names, copy.taken, into, pdf)
             if not found.agrees:
                 differ += 1
                 say(f"{found.key}: {verdict(found)}", error=True)
-            count += 1
+            written.add(folder_of(found.key))
             advance()
-    say(f"{count:,} statements in {into}" + (f", {differ:,} of them differ from the balance" if differ else ", all equal to the balances"))
+    tell_older(into, written)
+    compared = ", all equal to the balances" if since <= 1 else f", by the pools from {since} on"
+    say(f"{counted(len(written), 'statement')} in {into}" + (f", {differ:,} of them differ from the balance" if differ else compared))
     return 1 if differ else 0

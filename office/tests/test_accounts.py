@@ -71,6 +71,7 @@ def test_the_name_of_an_explained_pool_is_no_formula(copy: pathlib.Path) -> None
         (["I00000000295", "--pool", 1, "--isrc", "FREPS2600002"], "credits nothing to I00000000295 for FREPS2600002"),
         (["PB000000012", "--pool", 1], "is a sender of files"),
         (["I295", "--pool", 1], "is no account"),
+        (["I00000000295", "--pool", 1, "--isrc", ""], "'' is no ISRC"),
     ],
 )
 def test_what_can_not_be_explained(copy: pathlib.Path, words: list[object], said: str) -> None:

@@ -247,6 +247,17 @@ def test_a_statement_is_not_left_beside_a_newer_one(copy: pathlib.Path, tmp_path
     assert sorted(it.name for it in old.parent.iterdir()) == ["index.html", "statement.csv"]
 
 
+def test_statements_since_a_pool_are_compared_with_nothing(copy: pathlib.Path, tmp_path: pathlib.Path) -> None:
+    folder = tmp_path / "all"
+    run("statement", copy, "--all", "--into", folder)
+    words = ["statement", str(copy), "--all", "--into", str(folder), "--since", "5"]
+    said = CliRunner(mix_stderr=False).invoke(main, words, catch_exceptions=False)
+    # (pool 5 pays nobody, so the senders alone have statements)
+    assert said.stdout == f"{len(quarter.NAMES)} statements in {folder}, by the pools from 5 on\n"
+    left = sorted(folder_of(it) for it in reckoning.balances(quarter.OFFICE) if it != reckoning.NOBODY)
+    assert f"{len(left)} statements of an earlier run left in {folder}: {', '.join(left[:5])} and {len(left) - 5} more\n" == said.stderr
+
+
 def test_all_statements_of_balances_that_differ(copy: pathlib.Path, tmp_path: pathlib.Path) -> None:
     with changed(copy) as database:
         database.execute("UPDATE balances SET units = units + 1 WHERE account = 'I00000000295'")
