@@ -206,13 +206,16 @@ def test_a_cut_names_the_last_file_also_where_an_end_is_stated(copy: pathlib.Pat
 
 def test_the_units_of_a_credit_stand_once_in_an_explanation(copy: pathlib.Path, tmp_path: pathlib.Path, program: str) -> None:
     steps = [
-        Return("RADIO8", 1, [("ATABC2600001", 1, 100), ("ATABC2600001", 2, 200), ("ATABC2600002", 1, 50)]),
+        Return("RADIO8", 1, [("ATABC2600001", 1, 100), ("ATABC2600001", 2, 200), ("ATABC2600002", 1, 50), ("ATABC2600001", 3, 100)]),
         Pool(6, "PR", 1_001, quarter.FIRST_CUT, [("RADIO8", 1)]),
     ]
     then = further(program, copy, [quarter.OFFICE.request(it) for it in steps], tmp_path / "then.db")
     listed = rows_of(run("explain", then, ACCOUNT, "--pool", 6, "--format", "csv"))
     units = [to for _, account, to in reckoning.credits(quarter.OFFICE.with_steps(*steps), 6) if account == ACCOUNT]
     assert len(listed) > len(units) and [int(it["units"]) for it in listed if it["units"]] == units
+    # (rows of one length stand together)
+    plays = [[it["plays"], it["seconds"], it["points"]] for it in listed if it["isrc"] == "ATABC2600001"]
+    assert plays == [["4", "100", "400"], ["2", "200", "400"]]
 
 
 def test_of_many_works_the_greatest_are_printed(copy: pathlib.Path, monkeypatch: pytest.MonkeyPatch) -> None:

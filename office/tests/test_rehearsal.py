@@ -54,6 +54,15 @@ def test_plays_that_were_sent_twice(office: pathlib.Path, program: str) -> None:
     assert "RADIO1/4 has the same plays as RADIO1/3, paid by pool 3 in the PR: right only where it is to be paid in both" in found
 
 
+def test_plays_that_were_paid_in_both_rights(office: pathlib.Path, program: str, tmp_path: pathlib.Path) -> None:
+    paid = [order(("RADIO3", 1), right="MR"), order(("RADIO3", 2))._replace(pool=7)]
+    steps = [Return("RADIO3", 3, PLAYS), *paid]
+    then = further(program, office, [quarter.OFFICE.request(it) for it in steps], tmp_path / "paid.db")
+    for right, other in (("PR", "RADIO3/2, paid by pool 7 in the PR"), ("MR", "RADIO3/1, paid by pool 6 in the MR")):
+        found = notes(then, program, order(("RADIO3", 3), right=right)._replace(pool=8))
+        assert f"RADIO3/3 has the same plays as {other}: the plays would be paid twice" in found
+
+
 def test_returns_that_are_far_from_others(office: pathlib.Path, program: str) -> None:
     found = [it for it in notes(office, program, order(*(("RADIO4", it) for it in range(1, 6)))) if "points" in it]
     # The others of RADIO4/3 have 1,050 in the middle, so that it is just ten times that; RADIO4/4 is just not.

@@ -8,6 +8,7 @@ import quarter
 from click.testing import CliRunner
 from conftest import further
 from office_value import End, Pool, Return
+from society_office import settling
 from society_office.cli import main
 from society_office.copy import open_copy
 from society_office.fields import MAX_BODY
@@ -98,6 +99,13 @@ def test_both_rights_have_returns_of_their_own(copy: pathlib.Path, tmp_path: pat
     assert said.stderr == "nothing is left that has one owner now: nothing was written\n" and not (tmp_path / "again").exists()
     said = CliRunner(mix_stderr=False).invoke(main, ["unclaimed", str(closed), "--settle", str(tmp_path / "round")])
     assert f"MR.csv, MR.json, PR.csv, PR.json in {tmp_path / 'round'} is of an earlier run" in said.stderr
+
+
+def test_the_cut_of_a_round_where_senders_are_too_many(copy: pathlib.Path, monkeypatch: pytest.MonkeyPatch) -> None:
+    monkeypatch.setattr(settling, "MOST_SENDERS", 2)
+    with open_copy(copy) as opened:
+        cut = settling.cut_for(opened, ROUND)
+    assert dict(cut) == {it: quarter.OFFICE.fronts()[it] for it in (quarter.ALPHA, quarter.EPSILON)}
 
 
 def test_settling_is_over_all_pools(copy: pathlib.Path, tmp_path: pathlib.Path) -> None:

@@ -69,3 +69,8 @@ def test_what_is_nobodys() -> None:
     assert (rest(found, "PR"), nobodys(found, "PR"), rest(found, "MR"), nobodys(found, "MR")) == (1_667, 6_667, 0, 10_000)
     assert shares_text(found, "PR") == "NAME P1 33.33 %, NAME 50 % (with neither an IPI name number nor an IP #)"
     assert [percent_text(it) for it in (0, 1, 50, 5_000, 10_006)] == ["0 %", "0.01 %", "0.5 %", "50 %", "100.06 %"]
+
+
+def test_holders_that_have_more_than_the_whole_leave_nothing() -> None:
+    found = holders_of(party(Row(("05003", "05000", "00000"))), party(Row(("05003", "04999", "00000")), number="P2"))
+    assert (rest(found, "PR"), nobodys(found, "PR"), rest(found, "MR")) == (0, 0, 1)
