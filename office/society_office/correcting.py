@@ -199,7 +199,7 @@ def correct(program: str, copy: Copy, pool: int, changes: Changes, void: Sequenc
         order = Order(should.kind, sum(units.values()), should.cut, [(corrects(pool), number) for number, _ in returns]) if units else None
         credited = credited_by(trial.office, copy, returns, order) if order else Credits()
     lines = lines_of(by_account(right), by_account(paid), by_account(credited))
-    if not order and pool not in corrections(stored) and any(it.right != it.paid for it in lines):
+    if not order and pool not in corrections(stored, void) and any(it.right != it.paid for it in lines):
         returns = [(first, "isrc,plays,seconds\n")]
         remarks.append(
             f"the return of {corrects(pool)} has no row and needs no pool: it tells --settle that this pool is left to `correct`"

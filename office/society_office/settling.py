@@ -78,19 +78,19 @@ def settled_returns(copy: Copy, stored: Mapping[Return, Stored], void: Sequence[
     return found
 
 
-def corrections(stored: Mapping[Return, Stored]) -> dict[int, int]:
-    """The pools that were corrected, each with the number of the first return that does."""
+def corrections(stored: Mapping[Return, Stored], void: Sequence[Entry]) -> dict[int, int]:
+    """The pools that were corrected, each with the number of the first return that does; a void one that no pool has paid does not."""
     found: dict[int, int] = {}
     for it in stored.values():
-        if (pool := corrected_by(it.reporter)) is not None:
+        if (pool := corrected_by(it.reporter)) is not None and (it.pool or not are_listed(void, it.key)):
             found[pool] = min(it.number, found.get(pool, it.number))
     return found
 
 
-def left_to_correct(stored: Mapping[Return, Stored]) -> set[int]:
+def left_to_correct(stored: Mapping[Return, Stored], void: Sequence[Entry]) -> set[int]:
     """The pools whose money no round settles: those that were corrected, and those that pay what corrects them."""
     paying = {it.pool for it in stored.values() if corrected_by(it.reporter) is not None and it.pool}
-    return {*corrections(stored), *paying}
+    return {*corrections(stored, void), *paying}
 
 
 def held_back(copy: Copy, pool: int) -> Units:
@@ -98,9 +98,14 @@ def held_back(copy: Copy, pool: int) -> Units:
     return Units({it.isrc: it.units for it in Unclaimed(copy).each(pool) if it.cause in MAY_BE_OWNED})
 
 
+def is_before(it: Settled, number: int) -> bool:
+    """Whether a round goes before a correction; one that was written over the same copy does where it was paid all the same."""
+    return it.number < number or it.number == number and it.pool > 0
+
+
 def settled_of(copy: Copy, stored: Mapping[Return, Stored], void: Sequence[Entry], pool: int | None = None) -> dict[int, Units]:
     """What rounds before the first correction of each corrected pool have settled of it; also of one that is to be corrected now."""
-    numbers = corrections(stored)
+    numbers = corrections(stored, void)
     if pool is not None:
         numbers.setdefault(pool, next_number(stored))
     settled, rights = settled_returns(copy, stored, void), copy.rights()
@@ -110,7 +115,7 @@ def settled_of(copy: Copy, stored: Mapping[Return, Stored], void: Sequence[Entry
         right = rights.get(which)
         if right is None or not settled:
             continue
-        before = sum((it.units for it in settled if it.number < number and right in it.rights and it.pool != which), Units())
+        before = sum((it.units for it in settled if is_before(it, number) and right in it.rights and it.pool != which), Units())
         own = held_back(copy, which)
         found[which] = own & (before - taken[right])
         taken[right] += found[which]
@@ -119,7 +124,7 @@ def settled_of(copy: Copy, stored: Mapping[Return, Stored], void: Sequence[Entry
 
 def later(copy: Copy, items: Iterable[Item], stored: Mapping[Return, Stored], void: Sequence[Entry]) -> list[Later]:
     """What went to nobody and has one owner now, by right, less what rounds have returned; corrected pools are left out."""
-    others, rights = left_to_correct(stored), copy.rights()
+    others, rights = left_to_correct(stored, void), copy.rights()
     found: dict[str, Units] = collections.defaultdict(Units)
     for it in items:
         if it.cause in MAY_BE_OWNED and it.since and it.pool not in others:
@@ -134,9 +139,9 @@ def later(copy: Copy, items: Iterable[Item], stored: Mapping[Return, Stored], vo
     return [Later(right, units) for right, units in left.items() if units]
 
 
-def left_out(items: Iterable[Item], stored: Mapping[Return, Stored]) -> dict[int, int]:
+def left_out(items: Iterable[Item], stored: Mapping[Return, Stored], void: Sequence[Entry]) -> dict[int, int]:
     """What has one owner now in pools that are left to `correct`, by pool."""
-    others, found = left_to_correct(stored), collections.Counter[int]()
+    others, found = left_to_correct(stored, void), collections.Counter[int]()
     for it in items:
         if it.pool in others and it.cause in MAY_BE_OWNED and it.since:
             found[it.pool] += it.units

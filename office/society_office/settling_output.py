@@ -35,7 +35,7 @@ def show_later(out: Console, copy: Copy, items: list[Item], void: list[Entry]) -
         if len(rows) > MOST_ROWS:
             out.print(f"the first {MOST_ROWS:,} of {len(rows):,} stand here: `--settle` writes every one of them")
         out.print(table(["ISRC", "units"], rows[:MOST_ROWS], ["units"]))
-    for pool, units in left_out(items, stored).items():
+    for pool, units in left_out(items, stored, void).items():
         out.print()
         out.print(f"{units:,} units of pool {pool} have one owner now; it was corrected: `correct` with a later cut credits what they lack")
     if any(it.cause in MAY_BE_OWNED for it in items):

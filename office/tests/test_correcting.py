@@ -201,6 +201,25 @@ def test_what_was_settled_is_not_corrected_again(copy: pathlib.Path, program: st
     assert settled_units(then) == {}
 
 
+@pytest.mark.parametrize("is_paid", [False, True])
+def test_a_round_and_a_correction_of_one_copy(copy: pathlib.Path, program: str, tmp_path: pathlib.Path, is_paid: bool) -> None:
+    run("unclaimed", copy, "--settle", tmp_path / "round")
+    run("correct", copy, 1, "--cut", "now", "--program", program, "--into", tmp_path / "correct")
+    steps = [("/returns/SETTLED/1", (tmp_path / "round/PR.csv").read_bytes()), ("/pools/6", (tmp_path / "round/PR.json").read_bytes())]
+    steps.insert(0, ("/returns/CORRECTED1/1", (tmp_path / "correct/CORRECTED1-1.csv").read_bytes()))
+    if is_paid:
+        # (as rehearse warns of)
+        steps.append(("/pools/7", (tmp_path / "correct/CORRECTED1.json").read_bytes()))
+    then = further(program, copy, steps, tmp_path / "then.db")
+    if not is_paid:
+        then.with_name("void.txt").write_text("CORRECTED1/1  # the round was paid\n")
+    said = run("correct", then, 1, "--cut", "now", "--program", program)
+    assert "rounds of settling have paid 275,863 units of this pool" in said and "nothing is missing" in said or not is_paid
+    assert ("every account was paid what is right" in said) != is_paid
+    assert ("to be settled outside: 275,863 units" in said) == is_paid
+    assert "have one owner now" not in run("unclaimed", then) or is_paid
+
+
 @pytest.mark.parametrize("number", range(COUNT, COUNT + 20))
 def test_rounds_and_corrections_pay_no_unit_twice(number: int, folder: pathlib.Path, program: str) -> None:
     """A pool is corrected to the cut of now: what it held back is paid by that, and rounds settle what other pools did."""
