@@ -23,9 +23,9 @@ from society_office.orders import LARGEST_AMOUNT, Order, changed_cut, free_pool,
 from society_office.program import Office, Trial, trial_office
 from society_office.records import UNCLAIMED
 from society_office.return_names import Entry, Return, are_listed, names_text
-from society_office.settling import corrections, next_number, refuse_open, settled_of
+from society_office.settling import next_number, refuse_open, settled_of
 from society_office.splitting import split
-from society_office.stored_returns import Stored, stored_returns
+from society_office.stored_returns import Stored, corrections, stored_returns
 
 NEW = 201
 # The tables with rows of a pool; the first is not in older layouts.

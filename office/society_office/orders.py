@@ -2,13 +2,13 @@
 
 import dataclasses
 import json
-from collections.abc import Callable, Iterator, Mapping, Sequence
+from collections.abc import Callable, Container, Iterator, Mapping, Sequence
 
 from society_office.copy import Copy
 from society_office.errors import OfficeError
 from society_office.numbering import as_json, as_sent, rank_of
 from society_office.return_names import LAST_NUMBER, Entry, Return, are_listed, names_text, unmatched
-from society_office.stored_returns import Stored, corrected_pools, far_ones, same_plays, stored_returns
+from society_office.stored_returns import Stored, corrections, far_ones, same_plays, stored_returns
 
 MOST_SENDERS, MOST_RETURNS = 200, 1_000
 LARGEST_AMOUNT = 1_000_000_000_000
@@ -152,7 +152,7 @@ def refuse_wrong(wanted: Sequence[Entry], stored: Mapping[Return, Stored], why: 
         raise OfficeError("; ".join(wrong))
 
 
-def void_remarks(void: Sequence[Entry], stored: Mapping[Return, Stored], corrected: set[int]) -> Iterator[str]:
+def void_remarks(void: Sequence[Entry], stored: Mapping[Return, Stored], corrected: Container[int]) -> Iterator[str]:
     """What is said of void returns: entries that name none that is stored, and those that a pool has paid and nothing has corrected."""
     for one in unmatched(void, stored):
         yield f"{one.told}: no such return is stored"
@@ -207,7 +207,7 @@ def propose(copy: Copy, amount: int, kind: str, wanted: Wanted, void: Sequence[E
         )
         named = named[:MOST_RETURNS]
     remarks += far_ones(named, stored, void)
-    remarks += void_remarks(void, stored, corrected_pools(stored))
+    remarks += void_remarks(void, stored, corrections(stored, void))
     remarks += [f"{it.sender} has files that wait, which this order does not count" for it in copy.lines() if it.waiting]
     return Proposal(Order(kind, amount, cut, [it.key for it in named]), left, remarks, free_pool(copy))
 

@@ -15,7 +15,7 @@ from society_office.follow_ups import SETTLED, corrected_by, is_follow_up, retur
 from society_office.orders import LARGEST_AMOUNT, MOST_SENDERS, Order, cut_of
 from society_office.plays import points
 from society_office.return_names import Entry, Return, are_listed, names_text
-from society_office.stored_returns import Stored
+from society_office.stored_returns import Stored, corrections
 from society_office.unclaimed import Cause, Item, Unclaimed
 
 Units = collections.Counter[str]
@@ -75,15 +75,6 @@ def settled_returns(copy: Copy, stored: Mapping[Return, Stored], void: Sequence[
         it = stored[SETTLED, number]
         if it.pool or is_open(it, void):
             found.append(Settled(number, it.pool, (rights[it.pool],) if it.pool else BOTH, points(bytes(body))))
-    return found
-
-
-def corrections(stored: Mapping[Return, Stored], void: Sequence[Entry]) -> dict[int, int]:
-    """The pools that were corrected, each with the number of the first return that does; a void one that no pool has paid does not."""
-    found: dict[int, int] = {}
-    for it in stored.values():
-        if (pool := corrected_by(it.reporter)) is not None and (it.pool or not are_listed(void, it.key)):
-            found[pool] = min(it.number, found.get(pool, it.number))
     return found
 
 

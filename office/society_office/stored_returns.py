@@ -60,9 +60,13 @@ def stored_returns(copy: Copy) -> dict[Return, Stored]:
     return found
 
 
-def corrected_pools(stored: Mapping[Return, Stored]) -> set[int]:
-    """The pools for which a return is stored that corrects them."""
-    return {pool for it in stored.values() if (pool := corrected_by(it.reporter)) is not None}
+def corrections(stored: Mapping[Return, Stored], void: Sequence[Entry]) -> dict[int, int]:
+    """The pools that were corrected, each with the number of the first return that does; a void one that no pool has paid does not."""
+    found: dict[int, int] = {}
+    for it in stored.values():
+        if (pool := corrected_by(it.reporter)) is not None and (it.pool or not are_listed(void, it.key)):
+            found[pool] = min(it.number, found.get(pool, it.number))
+    return found
 
 
 @dataclasses.dataclass(frozen=True)

@@ -97,6 +97,14 @@ def test_it_is_rehearsed_and_sent(copy: pathlib.Path, tmp_path: pathlib.Path, pr
     assert sum(int(it["too_much"]) for it in rows) == 1_000_000 and list(rows[0])[:3] == ["account", "name", "due"]
 
 
+def test_a_void_correction_corrects_nothing(copy: pathlib.Path, program: str, tmp_path: pathlib.Path) -> None:
+    then = further(program, copy, [("/returns/CORRECTED1/1", b"isrc,plays,seconds\n")], tmp_path / "then.db")
+    then.with_name("void.txt").write_text("RADIO1/1\n")
+    assert "has paid what is void" not in run_errors(then)
+    then.with_name("void.txt").write_text("RADIO1/1\nCORRECTED1/1\n")
+    assert "pool 1 has paid what is void: RADIO1/1" in run_errors(then)
+
+
 def test_returns_as_they_should_have_been(copy: pathlib.Path, program: str, tmp_path: pathlib.Path) -> None:
     copy.with_name("void.txt").write_text("RADIO1/1 # of another month\n")
     said = run("correct", copy, 1, "--program", program)
