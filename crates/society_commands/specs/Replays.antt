@@ -15,6 +15,8 @@ use Rattle.society_core.specs.Book.{Book, empty_book}
 use Rattle.society_core.specs.Headline.{OneContent, HoldsWhatCame}
 use Rattle.society_core.specs.Requests.{Reply}
 use Rattle.society_core.specs.Runs.{Run}
+use Rattle.society_commands.specs.declared.trouble.Trouble.{Trouble}
+use Rattle.society_commands.specs.declared.trouble.Trouble.TheVariants.{Stream}
 
 -- the requests were answered in turn from the empty book on; the book after them holds what came
 pub record AnswersFromNothing (office : Office) (parts : List Part) (replies : List Reply) : Type 0 where
@@ -34,8 +36,8 @@ pub record Replays {R W : Type 0} (office : Office) (remaining : R → Option (L
   pub answers : AnswersFromNothing office parts replies
   pub written : Appends (contents (inner_of out)) (contents (inner_of new_out)) (texts parts replies ++ ending end)
 
--- up to a fault, which has its cause, the bytes began with requests; what is written are their answers from the empty book on, as far as they could be written
-pub record BreaksOff {R W : Type 0} (office : Office) (remaining : R → Option (List ℕ)) (contents : W → Option (List ℕ)) (reader new_reader : Counted R) (out new_out : Counted W) : Type 0 where
+-- up to a fault, which has its cause and is told, the bytes began with requests; what is written are their answers from the empty book on, as far as they could be written
+pub record BreaksOff {R W : Type 0} (office : Office) (remaining : R → Option (List ℕ)) (contents : W → Option (List ℕ)) (reader new_reader : Counted R) (out new_out : Counted W) (Told : Trouble → Type 0) : Type 0 where
   pub fault : DeskFault
   pub bytes : List ℕ
   pub given : IfSome (remaining (inner_of reader)) (λ all. all ≡ bytes)
@@ -45,3 +47,4 @@ pub record BreaksOff {R W : Type 0} (office : Office) (remaining : R → Option 
   pub written : Written office.society fault.kind bytes parts replies (contents (inner_of out)) (contents (inner_of new_out))
   pub count : fault.requests ≡ length parts
   pub cause : CausedBy fault.kind fault.requests most_turns remaining reader new_reader out new_out
+  pub told : Told (Stream fault)

@@ -1,9 +1,15 @@
--- Why the program ends with status 1, and the line that tells so.
-use Rattle.std.specs.Prelude.{ℕ, List, ◌++◌, Option, codes, decimal}
+-- What the program says on standard error, and when it says nothing there.
+use Rattle.std.specs.Prelude.{◌≡◌, ℕ, List, ◌++◌, Option, Result, Ok, Err, codes, decimal}
 use Rattle.http_desk.specs.declared.counted.Counted.{Counted}
+use Rattle.http_desk.specs.declared.fault.FaultKind.TheVariants as kind
+use Rattle.sqlite_disk.specs.declared.Disk.{Ghosts}
 use Rattle.desk_connections.specs.Connections.{Prints}
 use Rattle.society_commands.specs.Refusals.{database_fault}
 use Rattle.desk_connections.specs.Faults.{fault_text}
+use Rattle.society_commands.specs.declared.left.Left.{Left}
+use Rattle.society_commands.specs.declared.left.Left.TheVariants.{Unclosed}
+use Rattle.society_commands.specs.declared.starting.NoWords.{NoWords}
+use Rattle.society_commands.specs.declared.starting.NoWords.TheVariants as without
 use Rattle.society_commands.specs.declared.trouble.Trouble.{Trouble}
 use Rattle.society_commands.specs.declared.trouble.Trouble.TheVariants.{Database, NoConnection, NoListener, Stream}
 
@@ -17,3 +23,22 @@ trouble_text (Stream fault) = fault_text fault ++ codes " requests"
 -- this trouble was told, by a line of its own
 abbrev pub Tells : {E : Type 0} → (E → Option (List ℕ)) → Counted E → Counted E → Trouble → Type 0
 Tells contents err new_err trouble = Prints contents err new_err (codes "society: " ++ trouble_text trouble ++ codes "\n")
+
+-- the line that says so why the words are wrong (profile)
+abbrev pub refused_line : List ℕ → List ℕ
+refused_line why = codes "society: " ++ why ++ codes "\n"
+
+-- what is told where all that was asked for is done: nothing, but for a line where the log of what is left could not be copied (profile)
+abbrev pub TellsOfLog : {D O E : Type 0} {g : Ghosts D} → (E → Option (List ℕ)) → Counted E → Counted E → Left D O g → Type 0
+TellsOfLog contents err new_err (Unclosed error last) = Prints contents err new_err (codes "society: log not copied\n")
+TellsOfLog contents err new_err _ = new_err ≡ err
+
+-- what is told where the words could not be had: that they are wrong, where one is no text; or that memory was refused before any request
+abbrev pub TellsWithout : {E : Type 0} → (E → Option (List ℕ)) → Counted E → Counted E → NoWords → Type 0
+TellsWithout contents err new_err without.NoText = Prints contents err new_err (refused_line (codes "bad words"))
+TellsWithout contents err new_err without.Memory = Tells contents err new_err (Stream (record { kind = kind.Memory; requests = 0 }))
+
+-- what is told at the end: nothing more than was, or why the words could not be had
+abbrev pub TellsAtEnd : {E : Type 0} → (E → Option (List ℕ)) → Counted E → Counted E → Result ℕ NoWords → Type 0
+TellsAtEnd contents err new_err (Ok status) = new_err ≡ err
+TellsAtEnd contents err new_err (Err why) = TellsWithout contents err new_err why

@@ -3,7 +3,7 @@ ghost use Rattle.std.specs.Prelude.{◌≡◌, ◌⊎◌, codes, false, true};
 ghost use Rattle.sqlite.specs.Held.{state};
 ghost use Rattle.society_commands.specs.Connections.{FindsSound, FindsUnsound, IsSoundDatabase, TellsUnsound};
 ghost use Rattle.desk_connections.specs.Connections.{Prints};
-ghost use Rattle.society_commands.specs.Troubles.{Tells};
+ghost use Rattle.society_commands.specs.Troubles.{Tells, TellsOfLog};
 
 use crate::left::Left;
 use crate::machine::OpenDatabase;
@@ -32,6 +32,7 @@ pub fn audit_file<O: OpenDatabase, W: Write, E: Write>(
 ) -> (u8, Left<O::File, O>)
     ensures status { (result.0 ≡ 0) ⊎ (result.0 ≡ 1) }
     ensures sound { result.0 ≡ 0 → FindsSound O.OpenDatabase path.now office.now W.contents out.old out.new result.1 }
+    ensures quiet { result.0 ≡ 0 → TellsOfLog E.contents err.old err.new result.1 }
     ensures err { result.0 ≡ 1 → FindsUnsound O.OpenDatabase opener path.now office.now out.old out.new (Tells E.contents err.old err.new) result.1 }
 {
     let database = Database {
@@ -61,6 +62,7 @@ pub fn audit_database<M: Alter, W: Write, E: Write>(
     ensures status { (result.0 ≡ 0) ⊎ (result.0 ≡ 1) }
     ensures sound { result.0 ≡ 0 → IsSoundDatabase office.now (state M.Store connection) (state M.Store result.1)
         × Prints W.contents out.old out.new (codes "sound\n") }
+    ensures quiet { result.0 ≡ 0 → err.new ≡ err.old }
     ensures err { result.0 ≡ 1 → TellsUnsound office.now (state M.Store connection) (state M.Store result.1) (Tells E.contents err.old err.new)
         × (out.new ≡ out.old) }
 {

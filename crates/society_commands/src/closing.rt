@@ -1,6 +1,8 @@
 //! The end of an office's database.
-ghost use Rattle.std.specs.Prelude.{◌≡◌, ◌≢◌};
+ghost use Rattle.std.specs.Prelude.{◌≡◌, ◌≢◌, codes};
+ghost use Rattle.desk_connections.specs.Connections.{Prints};
 ghost use Rattle.society_commands.specs.Closing.{Closes, HandsBack};
+ghost use Rattle.society_commands.specs.Troubles.{TellsOfLog};
 
 use crate::left::Left;
 use crate::replaying::SERVED;
@@ -21,6 +23,7 @@ fn close_tables<D: Disk + Drop, O, E: Write>(
     err: &mut Counted<E>,
 ) -> Left<D, O>
     ensures quiet { status ≢ 0 → err.new ≡ err.old }
+    ensures told { status ≡ 0 → TellsOfLog E.contents err.old err.new result }
     ensures closed { Closes ⟦<Tables<FileStore<D>> as Store>⟧.state (λ t. t.conn) tables result }
 {
     match tables.into_connection().close_files() {
@@ -34,7 +37,8 @@ fn close_tables<D: Disk + Drop, O, E: Write>(
 
 // Writes that the log was not copied, unless the status says that a line was written already.
 fn tell_of_log<E: Write>(status: u8, err: &mut Counted<E>)
-    ensures { status ≢ 0 → err.new ≡ err.old }
+    ensures quiet { status ≢ 0 → err.new ≡ err.old }
+    ensures told { status ≡ 0 → Prints E.contents err.old err.new (codes "society: log not copied\n") }
 {
     if status == SERVED {
         print(err, b"society: log not copied\n");
@@ -48,6 +52,7 @@ pub(crate) fn close_left<D: Disk + Drop, O, E: Write>(
     err: &mut Counted<E>,
 ) -> Left<D, O>
     ensures quiet { status ≢ 0 → err.new ≡ err.old }
+    ensures told { status ≡ 0 → TellsOfLog E.contents err.old err.new result }
     ensures handed { HandsBack ⟦<Tables<FileStore<D>> as Store>⟧.state (λ t. t.conn) left result }
 {
     match left {

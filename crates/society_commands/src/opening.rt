@@ -4,7 +4,7 @@ ghost use Rattle.sqlite.specs.Files.{file_state};
 ghost use Rattle.sqlite.specs.Held.{state};
 ghost use Rattle.sqlite.specs.Held.{IsNew};
 ghost use Rattle.society_commands.specs.Connections.{IsNotOpened, IsOpenedAt, IsOver, LeavesBroken, LeavesRefused, LeavesServed, ServesOpened, StopsServingOpened, serving_as};
-ghost use Rattle.society_commands.specs.Troubles.{Tells};
+ghost use Rattle.society_commands.specs.Troubles.{Tells, TellsOfLog};
 
 use crate::closing::close_left;
 use crate::left::Left;
@@ -45,6 +45,7 @@ pub fn serve_file<N: Listen + Drop, O: OpenDatabase, W: Write, E: Write>(
     ensures status { (result.0 ≡ 0) ⊎ (result.0 ≡ 1) }
     ensures served { result.0 ≡ 0 → ServesOpened ⟦<Tables<FileStore<O::File>> as Store>⟧.state (λ t. t.conn) ⟦<N as Network>⟧.network
         O.OpenDatabase (serving_as job.entry office.now) W.contents out.old out.new result.1 }
+    ensures quiet { result.0 ≡ 0 → TellsOfLog E.contents err.old err.new result.1 }
     // Nothing is printed where the database is not opened, or nothing can be listened on; else fewer connections came. In each case
     // the clause names what is left of the database.
     ensures broken_off { result.0 ≡ 1 → StopsServingOpened ⟦<Tables<FileStore<O::File>> as Store>⟧.state (λ t. t.conn) ⟦<N as Network>⟧.network
@@ -96,6 +97,7 @@ fn serve_database<N: Listen + Drop, M: Alter, W: Write, E: Write>(
     ensures status { (result.0 ≡ 0) ⊎ (result.0 ≡ 1) }
     ensures served { result.0 ≡ 0 → LeavesServed ⟦<N as Network>⟧.network ⟦<Tables<M> as Store>⟧.state (serving_as job.entry office.now)
         (state M.Store connection) result.1 W.contents out.old out.new }
+    ensures quiet { result.0 ≡ 0 → err.new ≡ err.old }
     ensures broken_off { result.0 ≡ 1 → LeavesBroken (state M.Store) ⟦<N as Network>⟧.network ⟦<Tables<M> as Store>⟧.state
         (serving_as job.entry office.now) connection result.1 W.contents out.old out.new (Tells E.contents err.old err.new) }
 {

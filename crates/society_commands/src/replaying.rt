@@ -2,6 +2,7 @@
 ghost use Rattle.std.specs.Prelude.{◌≡◌, ◌⊎◌};
 ghost use Rattle.http_desk.specs.Serves.{KeepsTurns, NeitherFails};
 ghost use Rattle.society_commands.specs.Replays.{Replays, BreaksOff};
+ghost use Rattle.society_commands.specs.Troubles.{Tells};
 ghost use Rattle.desk_connections.specs.Faults.{most_turns};
 
 use crate::trouble::{Trouble, tell};
@@ -32,9 +33,10 @@ pub fn replay<R: Read, W: Write, E: Write>(
     ensures status { (result ≡ 0) ⊎ (result ≡ 1) }
     // What was written are the texts of the answers to the requests that were read, in order, and of the end.
     ensures served { result ≡ 0 → Replays office.now R.remaining W.contents reader.old out.old out.new }
-    // A stream breaks off only by a fault that has its cause; the answers up to it are written as far as they could be.
+    // A stream breaks off only by a fault that has its cause, and its line tells it; the answers up to it are written as far as they could be.
     ensures broken_off { result ≡ 1
-        → BreaksOff office.now R.remaining W.contents reader.old reader.new out.old out.new }
+        → BreaksOff office.now R.remaining W.contents reader.old reader.new out.old out.new (Tells E.contents err.old err.new) }
+    ensures quiet { result ≡ 0 → err.new ≡ err.old }
     // No failure is passed over, and each read was needed.
     ensures kept { result ≡ 0 → NeitherFails reader.old reader.new out.old out.new }
     ensures turns { KeepsTurns R.remaining reader.old reader.new most_turns }

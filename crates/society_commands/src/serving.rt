@@ -26,6 +26,7 @@ pub fn serve_store<N: Listen, S: Store, W: Write, E: Write>(
     ensures status { (result ≡ 0) ⊎ (result ≡ 1) }
     // The store is led from where it stood to where the last request left it.
     ensures served { result ≡ 0 → ServesStore ⟦<N as Network>⟧.network S.state desk.old desk.new W.contents out.old out.new place.port place.connections false }
+    ensures quiet { result ≡ 0 → err.new ≡ err.old }
     // The store is the same and nothing is printed where it cannot listen; else fewer connections came. Its line says which.
     ensures broken_off { result ≡ 1 → StopsServingStore ⟦<N as Network>⟧.network S.state desk.old desk.new W.contents out.old out.new place (Tells E.contents err.old err.new) }
 {

@@ -1,5 +1,5 @@
 //! What the program does, by its words.
-ghost use Rattle.std.specs.Prelude.{◌≡◌, ◌≢◌, ◌⊎◌, IfErr, IfOk, IsErr, OnErr};
+ghost use Rattle.std.specs.Prelude.{◌≡◌, ◌≢◌, ◌⊎◌, IfErr, IfOk, IsErr, OnErr, codes};
 ghost use Rattle.std.specs.IoError.{error_kind};
 ghost use Rattle.clap.specs.Words.{kind_of};
 ghost use Rattle.clap.specs.declared.error.kind.ErrorKind.TheVariants.{DisplayHelp, OutOfMemory};
@@ -8,8 +8,9 @@ ghost use Rattle.society_commands.specs.Connections.{FindsSound, FindsUnsound, S
 ghost use Rattle.society_commands.specs.Replays.{Replays, BreaksOff};
 ghost use Rattle.desk_connections.specs.Faults.{most_turns};
 ghost use Rattle.society_commands.specs.Refusals.{status_after, no_words_by, status_without};
-ghost use Rattle.society_commands.specs.Troubles.{Tells};
-ghost use Rattle.society_arguments.specs.Words.{AsksHelp, EndsAudit, EndsReplay, EndsServing, IsWrong, WantsReplay, asks};
+ghost use Rattle.desk_connections.specs.Connections.{Prints};
+ghost use Rattle.society_commands.specs.Troubles.{Tells, TellsAtEnd, TellsOfLog, TellsWithout, refused_line};
+ghost use Rattle.society_arguments.specs.Words.{AsksHelp, EndsAudit, EndsReplay, EndsServing, HasBadName, IsWrong, WantsReplay, asks};
 
 use crate::auditing::audit_file;
 use crate::left::Left;
@@ -55,18 +56,21 @@ pub fn start<N: Listen + Drop, O: OpenDatabase, R: Read, W: Write, E: Write>(
     out: &mut Counted<W>,
     err: &mut Counted<E>,
 ) -> (Result<u8, NoWords>, Left<O::File, O>)
-    ensures err { OnErr result.0 ((reader.new ≡ reader.old) × (out.new ≡ out.old) × IsUnused opener result.1) }
+    ensures err { OnErr result.0 ((reader.new ≡ reader.old) × (out.new ≡ out.old) × (err.new ≡ err.old) × IsUnused opener result.1) }
     ensures memory { IfErr result.0 (λ why. why ≡ NoWords.Memory) }
     ensures wrong { IsWrong (asks words.now)
         → IfOk result.0 (λ status. (status ≡ 2) × (reader.new ≡ reader.old) × (out.new ≡ out.old)) }
+    ensures name { asks words.now ≡ HasBadName → IfOk result.0 (λ _. Prints E.contents err.old err.new (refused_line (codes "bad name"))) }
     ensures help { asks words.now ≡ AsksHelp → IfOk result.0 (λ status. (status ≡ 0) × (reader.new ≡ reader.old)) }
     ensures status { IfOk result.0 (λ status. (status ≡ 0) ⊎ ((status ≡ 1) ⊎ ((status ≡ 2) × IsWrong (asks words.now)))) }
+    // Where all that they ask for is done, nothing is said on `err` but that a log was not copied.
+    ensures quiet { IfOk result.0 (λ status. status ≡ 0 → TellsOfLog E.contents err.old err.new result.1) }
     // But to serve and to audit nothing is opened.
     ensures unused { UsesNothing (asks words.now) opener result.1 }
     ensures replayed { EndsReplay (asks words.now) 0 result.0 (λ office.
         Replays office R.remaining W.contents reader.old out.old out.new) }
     ensures broken_off { EndsReplay (asks words.now) 1 result.0 (λ office.
-        BreaksOff office R.remaining W.contents reader.old reader.new out.old out.new) }
+        BreaksOff office R.remaining W.contents reader.old reader.new out.old out.new (Tells E.contents err.old err.new)) }
     // No failure is passed over, and each read was needed.
     ensures kept { EndsReplay (asks words.now) 0 result.0 (λ office. NeitherFails reader.old reader.new out.old out.new) }
     ensures turns { WantsReplay (asks words.now) → IfOk result.0 (λ status. KeepsTurns R.remaining reader.old reader.new most_turns) }
@@ -106,7 +110,8 @@ fn explain<W: Write, E: Write>(
     out: &mut Counted<W>,
     err: &mut Counted<E>,
 ) -> Result<u8, NoWords>
-    ensures err { OnErr result (out.new ≡ out.old) }
+    ensures err { OnErr result ((out.new ≡ out.old) × (err.new ≡ err.old)) }
+    ensures quiet { IfOk result (λ status. status ≡ 0 → err.new ≡ err.old) }
     ensures no_words { IfErr result (λ why. (why ≡ NoWords.Memory) × ((kind_of error.now ≡ OutOfMemory) ⊎ (kind_of error.now ≡ DisplayHelp))) }
     ensures memory { kind_of error.now ≡ OutOfMemory → IsErr result }
     ensures help { kind_of error.now ≡ DisplayHelp → IfOk result (λ status. status ≡ 0) }
@@ -133,7 +138,8 @@ fn explain<W: Write, E: Write>(
 
 // Writes why the words are wrong; a line that is not taken is passed over. Answers the status.
 fn refuse<E: Write>(err: &mut Counted<E>, why: &str) -> u8
-    ensures { result ≡ 2 }
+    ensures status { result ≡ 2 }
+    ensures told { Prints E.contents err.old err.new (refused_line why.now) }
 {
     print(err, b"society: ");
     print(err, why.as_bytes());
@@ -154,7 +160,8 @@ pub fn why_no_words(error: &io::Error) -> NoWords
 /// Ends the program: the status is that of what it did; where its words could not be had one line is written on `err`, and the status
 /// is 2 where one is no text, 1 where memory was refused.
 pub fn exit_status<E: Write>(outcome: Result<u8, NoWords>, err: &mut Counted<E>) -> u8
-    ensures { result ≡ status_after outcome }
+    ensures status { result ≡ status_after outcome }
+    ensures told { TellsAtEnd E.contents err.old err.new outcome }
 {
     match outcome {
         Ok(status) => status,
@@ -164,7 +171,8 @@ pub fn exit_status<E: Write>(outcome: Result<u8, NoWords>, err: &mut Counted<E>)
 
 /// Ends before any request where the words could not be had: writes one line on `err`. Answers the status.
 fn without_words<E: Write>(why: NoWords, err: &mut Counted<E>) -> u8
-    ensures { result ≡ status_without why }
+    ensures status { result ≡ status_without why }
+    ensures told { TellsWithout E.contents err.old err.new why }
 {
     match why {
         NoWords::NoText => refuse(err, "bad words"),

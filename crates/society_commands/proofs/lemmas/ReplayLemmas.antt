@@ -13,6 +13,8 @@ use Rattle.society_core.specs.Requests.{Reply}
 use Rattle.society_core.specs.Runs.{Run}
 use Rattle.society_core.specs.State.{State}
 use Rattle.society_commands.specs.Replays.{AnswersFromNothing, Replays, BreaksOff}
+use Rattle.society_commands.specs.declared.trouble.Trouble.{Trouble}
+use Rattle.society_commands.specs.declared.trouble.Trouble.TheVariants.{Stream}
 use Rattle.desk_connections.specs.Faults.{most_turns}
 
 -- the answers are a run from the empty book on
@@ -44,10 +46,10 @@ module _ {S R W : Type 0} (desk new_desk : S) (state : S → State) (office : Of
     written = s.written;
   }
 
-  pub breaks_off_from : (fault : DeskFault) → Breaks state fault (remaining (inner_of reader)) desk new_desk (contents (inner_of out)) (contents (inner_of new_out))
-      → CausedBy fault.kind fault.requests most_turns remaining reader new_reader out new_out
-      → BreaksOff office remaining contents reader new_reader out new_out
-  breaks_off_from fault b cause = record {
+  pub breaks_off_from : (fault : DeskFault) (Told : Trouble → Type 0) → Breaks state fault (remaining (inner_of reader)) desk new_desk (contents (inner_of out)) (contents (inner_of new_out))
+      → CausedBy fault.kind fault.requests most_turns remaining reader new_reader out new_out → Told (Stream fault)
+      → BreaksOff office remaining contents reader new_reader out new_out Told
+  breaks_off_from fault Told b cause told = record {
     fault = fault;
     bytes = b.bytes;
     given = b.given;
@@ -57,4 +59,5 @@ module _ {S R W : Type 0} (desk new_desk : S) (state : S → State) (office : Of
     written = subst (λ (o : Office). Written o.society fault.kind b.bytes b.parts b.replies (contents (inner_of out)) (contents (inner_of new_out))) same b.written;
     count = b.count;
     cause = cause;
+    told = told;
   }

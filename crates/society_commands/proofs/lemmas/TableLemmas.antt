@@ -11,6 +11,8 @@ use Rattle.society_core.specs.State.{State}
 use Rattle.desk_connections.proofs.lemmas.ConnectionLemmas.{appends_nothing}
 use Rattle.society_commands.proofs.lemmas.ReplayLemmas.{from_nothing}
 use Rattle.society_commands.specs.Replays.{BreaksOff}
+use Rattle.society_commands.specs.declared.trouble.Trouble.{Trouble}
+use Rattle.society_commands.specs.declared.trouble.Trouble.TheVariants.{Stream}
 
 -- a store of an office to which nothing has come
 abbrev nothing_yet : Office → State
@@ -21,8 +23,9 @@ known_or_none None = tt
 known_or_none (Some all) = refl
 
 -- where memory is refused for the tables, nothing is read and nothing is written
-pub no_tables : {R W : Type 0} (office : Office) (remaining : R → Option (List ℕ)) (contents : W → Option (List ℕ)) (reader : Counted R) (out : Counted W) → BreaksOff office remaining contents reader reader out out
-no_tables office remaining contents reader out = record {
+pub no_tables : {R W : Type 0} (office : Office) (remaining : R → Option (List ℕ)) (contents : W → Option (List ℕ)) (reader : Counted R) (out : Counted W) (Told : Trouble → Type 0)
+    → Told (Stream (record { kind = Memory; requests = 0 })) → BreaksOff office remaining contents reader reader out out Told
+no_tables office remaining contents reader out Told told = record {
   fault = record { kind = Memory; requests = 0 };
   bytes = unwrap_or (remaining (inner_of reader)) [];
   given = known_or_none (remaining (inner_of reader));
@@ -32,4 +35,5 @@ no_tables office remaining contents reader out = record {
   written = (unwrap_or (remaining (inner_of reader)) [], record { whole = refl; each = tt }, appends_nothing (contents (inner_of out)));
   count = refl;
   cause = (refl, refl, refl);
+  told = told;
 }

@@ -82,7 +82,7 @@ pub returns-in-Ok-BadName-clause-help : goal.returns-in-Ok-BadName-clause-help
 returns-in-Ok-BadName-clause-help g c = λ help. absurd (read_no_help _ _ c.in-Ok-BadName.ensures.ok help)
 
 pub returns-in-Ok-BadName-clause-status : goal.returns-in-Ok-BadName-clause-status
-returns-in-Ok-BadName-clause-status g c = inr (inr (c.refuse.ensures, name_is_wrong _ (rw c.in-Ok-BadName.field-0-is at c.in-Ok-BadName.ensures.ok)))
+returns-in-Ok-BadName-clause-status g c = inr (inr (c.refuse.ensures.status, name_is_wrong _ (rw c.in-Ok-BadName.field-0-is at c.in-Ok-BadName.ensures.ok)))
 
 pub returns-in-Ok-BadName-clause-replayed : goal.returns-in-Ok-BadName-clause-replayed
 returns-in-Ok-BadName-clause-replayed g c = λ wants. absurd (replay_read _ _ (rw c.in-Ok-BadName.field-0-is at c.in-Ok-BadName.ensures.ok) wants)
@@ -106,7 +106,7 @@ pub returns-in-Ok-BadWords-clause-help : goal.returns-in-Ok-BadWords-clause-help
 returns-in-Ok-BadWords-clause-help g c = λ help. absurd (read_no_help _ _ c.in-Ok-BadWords.ensures.ok help)
 
 pub returns-in-Ok-BadWords-clause-status : goal.returns-in-Ok-BadWords-clause-status
-returns-in-Ok-BadWords-clause-status g c = inr (inr (c.refuse-in-Ok-BadWords.ensures, words_are_wrong _ (rw c.in-Ok-BadWords.field-0-is at c.in-Ok-BadWords.ensures.ok)))
+returns-in-Ok-BadWords-clause-status g c = inr (inr (c.refuse-in-Ok-BadWords.ensures.status, words_are_wrong _ (rw c.in-Ok-BadWords.field-0-is at c.in-Ok-BadWords.ensures.ok)))
 
 pub returns-in-Ok-BadWords-clause-replayed : goal.returns-in-Ok-BadWords-clause-replayed
 returns-in-Ok-BadWords-clause-replayed g c = λ wants. absurd (replay_read _ _ (rw c.in-Ok-BadWords.field-0-is at c.in-Ok-BadWords.ensures.ok) wants)
