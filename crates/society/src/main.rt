@@ -14,7 +14,7 @@ fn main(rt: HostRuntime) -> ExitCode {
     // Before anything else is opened: what is opened first would get the number of a stream that is missing.
     let streams = match StandardStreams::complete(&rt) {
         Ok(streams) => streams,
-        Err(_) => return ExitCode::from(without_streams(&mut rt.stderr())),
+        Err(_) => return ExitCode::from(without_streams(&mut Counted::new(rt.stderr()))),
     };
     let status = run(&rt);
     drop(streams);

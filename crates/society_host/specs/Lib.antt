@@ -1,3 +1,4 @@
 pub mod Found
 pub mod Parting
 pub mod Refusals
+pub mod Waiting

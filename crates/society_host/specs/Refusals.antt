@@ -1,5 +1,5 @@
 -- What is said where a database is not opened on this machine.
-use Rattle.std.specs.Prelude.{◌≡◌, ◌⊎◌, ℕ, Bool, false, List, [], ◌∷◌, ◌++◌, Result, Ok, Err, bytes_eq, codes, if◌then◌else◌}
+use Rattle.std.specs.Prelude.{◌≡◌, ◌⊎◌, ℕ, Bool, false, List, [], ◌∷◌, ◌++◌, Result, Ok, Err, bytes_eq, codes, if◌then◌else◌, nat_lt}
 use Rattle.std.specs.declared.io.ErrorKind.{ErrorKind}
 use Rattle.std.specs.declared.io.ErrorKind.TheVariants.{NotFound}
 use Rattle.sqlite.specs.Files.{HoldsDatabase, IsCleanLeft, IsNothing, LeavesFiles, faults_left, faults_of, image_of}
@@ -36,6 +36,10 @@ fault_by_start (byte ∷ bytes) = if bytes_eq (byte ∷ bytes) file_header then 
 abbrev pub presence_by : ErrorKind → Result Bool OpenFault
 presence_by NotFound = Ok false
 presence_by _ = Err fault.Store
+
+-- what the bytes of a log say of a database whose file is not there, or has no byte: a log of more than 41 has a page, and is what is left of a damaged one; else there is none (profile)
+abbrev pub presence_by_log : ℕ → Result Bool OpenFault
+presence_by_log bytes = if nat_lt 41 bytes then Err fault.Damaged else Ok false
 
 -- no database was to be found in what files hold
 abbrev pub HoldsNone : Image → Type 0

@@ -3,7 +3,7 @@ ghost use Rattle.std.specs.Prelude.{◌≡◌, ◌⊎◌, IfErr, false, true};
 ghost use Rattle.sqlite_std_file.specs.File.{IsFresh};
 ghost use Rattle.sqlite_wal.specs.Files.{image_at};
 ghost use Rattle.society_host.specs.Found.{IsFoundIn};
-ghost use Rattle.society_host.specs.Refusals.{FaultsAs, IsToldOfNone, RefusesFiles, fault_by_start, presence_by};
+ghost use Rattle.society_host.specs.Refusals.{FaultsAs, IsToldOfNone, RefusesFiles, fault_by_start, presence_by, presence_by_log};
 
 use society_commands::{Left, OpenDatabase};
 use society_opening::OpenFault;
@@ -113,9 +113,21 @@ fn without_log(runtime: &HostRuntime, path: &str) -> Result<bool, OpenFault>
         return Err(OpenFault::Memory);
     };
     match fs::metadata(runtime, log.as_str()) {
-        Ok(file) if file.len() > EMPTY_LOG => Err(OpenFault::Damaged),
-        Ok(_) => Ok(false),
+        Ok(file) => presence_by_log(file.len()),
         Err(error) => presence_by(error.kind()),
+    }
+}
+
+/// What the bytes of a log say of a database whose file is not there, or has none: with a page the log is what is left of one, so it is
+/// damaged; else there is none.
+fn presence_by_log(bytes: u64) -> Result<bool, OpenFault>
+    ensures value { result ≡ presence_by_log bytes }
+    ensures told { IfErr result IsToldOfNone }
+{
+    if bytes > EMPTY_LOG {
+        Err(OpenFault::Damaged)
+    } else {
+        Ok(false)
     }
 }
 

@@ -1,5 +1,7 @@
 //! Where connections come in on this machine.
 ghost use Rattle.std.specs.Prelude.{◌≡◌, true};
+ghost use Rattle.std.specs.IoError.{error_kind, raw_os_error};
+ghost use Rattle.society_host.specs.Waiting.{is_passing};
 
 use crate::parting::part;
 use crate::patience::{LONGEST_WAIT, Patient, bound_waits};
@@ -149,7 +151,9 @@ fn another<C: Clock>(clock: &C, stream: &TcpStream) -> io::Result<TcpStream> {
 }
 
 // Whether an error of accepting says nothing of the listener.
-fn is_passing(error: &io::Error) -> bool {
+fn is_passing(error: &io::Error) -> bool
+    ensures { result ≡ is_passing (raw_os_error error.now) (error_kind error.now) }
+{
     match error.raw_os_error() {
         Some(number) if NO_DESCRIPTOR.contains(&number) => true,
         _ => error.kind() == ErrorKind::ConnectionAborted,

@@ -1,5 +1,6 @@
 //! A connection that a signal does not cut off: a process that is stopped and goes on again reads and writes on.
-ghost use Rattle.std.specs.Prelude.{◌≡◌, ◌≢◌, IfErr, None};
+ghost use Rattle.std.specs.Prelude.{◌≡◌, ◌≢◌, ◌≤◌, ◌*◌, ◌^◌, IfErr, None};
+ghost use Rattle.std.specs.Duration.{as_nanos};
 ghost use Rattle.std.specs.Io.{ReadsAtMost, WritesAtMost};
 ghost use Rattle.std.specs.Io.KnownBytes.{ReadConsumes, WriteAppends};
 ghost use Rattle.std.specs.IoError.{error_kind};
@@ -48,8 +49,11 @@ impl<C: Clock> Patient<C> {
         Instant::now(&self.clock).ok()
     }
 
-    // How long may still be waited for what began at a time.
-    fn time_left(&self, begun: Option<Instant>) -> Duration {
+    // How long may still be waited for what began at a time: a second at least, half a minute at most.
+    fn time_left(&self, begun: Option<Instant>) -> Duration
+        ensures least { 10 ^ 9 ≤ as_nanos result }
+        ensures most { as_nanos result ≤ 30 * 10 ^ 9 }
+    {
         let longest = Duration::from_secs(LONGEST_WAIT);
         let Some(begun) = begun else {
             return longest;

@@ -1,6 +1,9 @@
 //! The standard streams of the program.
-ghost use Rattle.std.specs.Prelude.{◌≡◌};
+ghost use Rattle.std.specs.Prelude.{◌≡◌, codes};
+ghost use Rattle.desk_connections.specs.Connections.{Prints};
 
+use desk_connections::print;
+use http_desk::Counted;
 use society_commands::BROKEN_OFF;
 use std::fs::{File, OpenOptions};
 use std::io::{self, Write};
@@ -39,9 +42,10 @@ fn placeholder<S: AsFd>(runtime: &HostRuntime, stream: &S) -> io::Result<Option<
 }
 
 /// Writes that a standard stream is missing and nothing can stand in its place; a line that is not taken is passed over. Answers the status.
-pub fn without_streams<E: Write>(err: &mut E) -> u8
-    ensures { result ≡ 1 }
+pub fn without_streams<E: Write>(err: &mut Counted<E>) -> u8
+    ensures status { result ≡ 1 }
+    ensures told { Prints E.contents err.old err.new (codes "society: no standard streams\n") }
 {
-    let _ = writeln!(err, "society: no standard streams");
+    print(err, b"society: no standard streams\n");
     BROKEN_OFF
 }
