@@ -41,15 +41,28 @@ def is_noticed(office: pathlib.Path, words: list[str]) -> bool:
     return done.returncode != 0
 
 
+def plants() -> list[dict[str, str]]:
+    """All bugs."""
+    found: list[dict[str, str]] = tomllib.loads((TESTS / "plants.toml").read_text())["plant"]
+    return found
+
+
+def planted(plant: dict[str, str], office: pathlib.Path) -> str | None:
+    """The text of a bug's file with the bug in it; none where it is out of date."""
+    text = (office / plant["file"]).read_text()
+    if text.count(plant["old"]) != 1 or plant["old"] == plant["new"]:
+        return None
+    return text.replace(plant["old"], plant["new"])
+
+
 def outcome(plant: dict[str, str], likely_only: bool) -> str:
     """What becomes of a planted bug: noticed, SURVIVES, or OUT OF DATE."""
     with tempfile.TemporaryDirectory(prefix="plant-") as folder:
         office = checkout(pathlib.Path(folder))
-        file = office / plant["file"]
-        text = file.read_text()
-        if text.count(plant["old"]) != 1 or plant["old"] == plant["new"]:
+        text = planted(plant, office)
+        if text is None:
             return "OUT OF DATE"
-        file.write_text(text.replace(plant["old"], plant["new"]))
+        (office / plant["file"]).write_text(text)
         likely = plant.get("first", "").split()
         runs = [
             [f"tests/{it}" for it in likely],
@@ -71,8 +84,7 @@ def main() -> None:
     )
     options.add_argument("--first", type=int, default=0, metavar="K")
     given = options.parse_args()
-    plants = tomllib.loads((TESTS / "plants.toml").read_text())["plant"]
-    chosen = [it for it in plants if not given.words or any(word in it["name"] for word in given.words)][given.first :: given.every]
+    chosen = [it for it in plants() if not given.words or any(word in it["name"] for word in given.words)][given.first :: given.every]
     found = {}
     for it in chosen:
         found[it["name"]] = outcome(it, given.likely)
