@@ -388,6 +388,10 @@ def send_by_form(browser, folder, faults):
     submit(browser, "send")
     compare("a return", state(browser, "send"), "Return 1 is stored.")
     set_form(browser, "send", kind="order")
+    submit(browser, "send")
+    fault = faults["order"]["1"]
+    wanted = f"Not taken: fault 1, {fault['means']}. Cure: {fault['cure']}. The number is free still."
+    compare("an order as it was offered", state(browser, "send"), wanted)
     set_form(browser, "send", order=order_body(5, [[BETA, 9]], []).decode())
     submit(browser, "send")
     compare("a cut too high", state(browser, "send"), f"Not taken. {BETA} has all files up to 5 only: wait for the missing ones, or cut it lower.")

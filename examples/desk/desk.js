@@ -356,10 +356,10 @@ function nextNumber(form) {
   return next[form.kind.value];
 }
 
-/** An order over all that has come, for staff to fill in. */
+/** An order over all that has come, for staff to fill in: it is no JSON before, so that nothing is closed by a draft. */
 function orderDraft() {
   const cut = (known.senders ?? []).filter((it) => it.front && !String(it.front).endsWith("-0000")).map((it) => [it.key, it.front]);
-  return `{"amount":0,\n "cut":${JSON.stringify(cut)},\n "returns":[["RADIO1",1]]}`;
+  return `{"amount":AMOUNT,\n "cut":${JSON.stringify(cut)},\n "returns":[[STATION,NUMBER]]}`;
 }
 
 function showKind(form) {
