@@ -1,26 +1,33 @@
 //! Tables by their names, and the questions that words ask of them.
-use crate::writes::count;
+use crate::rows::count;
 use society_rows::{Question, TableName};
+
+/// The tables, each with the word that names it.
+const TABLES: [(&str, TableName); 14] = [
+    ("office", TableName::Office),
+    ("transmissions", TableName::Transmissions),
+    ("returns", TableName::Returns),
+    ("pools", TableName::Pools),
+    ("cuts", TableName::PoolCuts),
+    ("paid", TableName::PoolReturns),
+    ("fronts", TableName::Fronts),
+    ("verdicts", TableName::Verdicts),
+    ("versions", TableName::Versions),
+    ("recordings", TableName::Recordings),
+    ("credits", TableName::Credits),
+    ("balances", TableName::Balances),
+    ("ends", TableName::SegmentEnds),
+    ("mechanical", TableName::MechanicalPools),
+];
 
 /// The table that a word names.
 pub fn table_of(word: &str) -> Option<TableName> {
-    Some(match word {
-        "office" => TableName::Office,
-        "transmissions" => TableName::Transmissions,
-        "returns" => TableName::Returns,
-        "pools" => TableName::Pools,
-        "cuts" => TableName::PoolCuts,
-        "paid" => TableName::PoolReturns,
-        "fronts" => TableName::Fronts,
-        "verdicts" => TableName::Verdicts,
-        "versions" => TableName::Versions,
-        "recordings" => TableName::Recordings,
-        "credits" => TableName::Credits,
-        "balances" => TableName::Balances,
-        "ends" => TableName::SegmentEnds,
-        "mechanical" => TableName::MechanicalPools,
-        _ => return None,
-    })
+    for (name, table) in &TABLES {
+        if *name == word {
+            return Some(*table);
+        }
+    }
+    None
 }
 
 /// A question of a word and the number of a pool.

@@ -3,9 +3,10 @@ ghost use Rattle.std.specs.Prelude.{◌+◌, ◌≡◌};
 ghost use Rattle.society_rows.specs.declared.fault.RowFault.TheVariants.{Memory};
 
 use crate::questions::{question_of, table_of};
+use crate::rows::count;
 use crate::told::words;
 use crate::typed::told_typed;
-use crate::writes::{count, told_result};
+use crate::writes::told_result;
 use society_rows::{RowFault, RowFold, all_rows, answer, are_numbered, fold_run};
 use sqlite::{Alter, Row, Transaction};
 use sqlite_value::value::ValueRef;

@@ -1,5 +1,5 @@
 //! Requests of a sender and of a reporter.
-use crate::writes::segment_of;
+use crate::rows::segment_of;
 use share_rules::Kind;
 use society_core::{Desk, PoolOrder, Refusal, ReturnKey, Store};
 use std::alloc::Global;

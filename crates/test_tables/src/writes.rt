@@ -1,13 +1,13 @@
 //! Rows that are written.
-use crate::lists::write_list;
+use crate::rows::{FromWords, amount};
 use crate::told::{done, words};
 use society_rows::{
-    BalanceRow, FrontRow, MechanicalPoolRow, NewRows, PoolRow, ReturnRow, RowFault, SegmentEndRow,
-    TransmissionRow, add, add_units, put_front,
+    BalanceRow, CreditRow, FrontRow, MechanicalPoolRow, NewRows, PoolCutRow, PoolReturnRow,
+    PoolRow, RecordingRow, ReturnRow, RowFault, SegmentEndRow, TransmissionRow, VerdictRow,
+    VersionRow, add, add_all, add_units, put_front,
 };
 use sqlite::{Alter, Transaction};
 use std::alloc::Global;
-use work_ids::Segment;
 
 /// Tells what came of a write.
 pub fn told_result(alloc: Global, written: Result<(), RowFault>) -> Option<String> {
@@ -19,103 +19,68 @@ pub fn told_result(alloc: Global, written: Result<(), RowFault>) -> Option<Strin
     }
 }
 
-/// The segment that a word names: `plain`, or a year by its last two digits.
-pub fn segment_of(word: &str) -> Option<Segment> {
-    match word {
-        "plain" => Some(Segment::Plain),
-        _ => Some(Segment::Year(word.parse::<u8>().ok()?)),
+/// Adds units to the balance of an account.
+fn write_units<S: Alter>(
+    tx: &mut Transaction<'_, S>,
+    words: &[&str],
+) -> Option<Result<(), RowFault>> {
+    let [account, units] = words else {
+        return None;
+    };
+    Some(add_units(tx, account.as_bytes(), amount(units)?))
+}
+
+/// Writes one row of the kind that a word names.
+fn write_row<'a, S: Alter>(
+    tx: &mut Transaction<'_, S>,
+    word: &str,
+    words: &[&'a str],
+) -> Option<Result<(), RowFault>> {
+    Some(match word {
+        "transmission" => add(tx, NewRows::Transmission(&TransmissionRow::of(words)?)),
+        "return" => add(tx, NewRows::Return(&ReturnRow::of(words)?)),
+        "end" => add(tx, NewRows::SegmentEnd(&SegmentEndRow::of(words)?)),
+        "pool" => add(tx, NewRows::Pool(&PoolRow::of(words)?)),
+        "mechanical" => add(tx, NewRows::MechanicalPool(&MechanicalPoolRow::of(words)?)),
+        "balance" => add(tx, NewRows::Balance(&BalanceRow::of(words)?)),
+        "front" => put_front(tx, &FrontRow::of(words)?),
+        "units" => return write_units(tx, words),
+        _ => return None,
+    })
+}
+
+/// The rows of a list with `&` between them; of an empty one none.
+fn rows_of<'a, R: FromWords<'a> + Drop>(alloc: Global, list: &'a str) -> Option<Vec<R>> {
+    let mut rows = Vec::new(alloc);
+    if list.is_empty() {
+        return Some(rows);
     }
+    for row in list.split(" & ") {
+        let words = row.split(' ').collect::<Vec<&'a str>>(alloc).ok()?;
+        rows.push(R::of(&words)?).ok()?;
+    }
+    Some(rows)
 }
 
-/// The number that a word spells.
-pub fn count(word: &str) -> Option<u32> {
-    word.parse::<u32>().ok()
-}
-
-/// The number that a word spells, which may be long, or below 0.
-pub fn amount(word: &str) -> Option<i64> {
-    word.parse::<i64>().ok()
-}
-
-/// Writes one row of what comes to the office, of the kind that a word names.
-fn write_row<S: Alter>(
+/// Writes the rows of a list, of the kind that a word names.
+fn write_list<'a, S: Alter>(
+    alloc: Global,
     tx: &mut Transaction<'_, S>,
     word: &str,
-    words: &[&str],
+    list: &'a str,
 ) -> Option<Result<(), RowFault>> {
-    Some(match (word, words) {
-        ("transmission", [sender, number, body @ ..]) => {
-            let (sender, number) = (sender.as_bytes(), count(number)?);
-            let body = body.first().copied().unwrap_or("").as_bytes();
-            let row = TransmissionRow {
-                sender,
-                number,
-                body,
-            };
-            add(tx, NewRows::Transmission(&row))
-        }
-        ("return", [reporter, number, body]) => {
-            let (reporter, number) = (reporter.as_bytes(), count(number)?);
-            let body = body.as_bytes();
-            let row = ReturnRow {
-                reporter,
-                number,
-                body,
-            };
-            add(tx, NewRows::Return(&row))
-        }
-        ("end", [sender, segment, last, next]) => {
-            let (sender, segment) = (sender.as_bytes(), segment_of(segment)?);
-            let (last, next) = (count(last)?, count(next)?);
-            let row = SegmentEndRow {
-                sender,
-                segment,
-                last,
-                next,
-            };
-            add(tx, NewRows::SegmentEnd(&row))
-        }
+    Some(match word {
+        "cuts" => add_all(tx, rows_of::<PoolCutRow<'a>>(alloc, list)?.as_slice()),
+        "paid" => add_all(tx, rows_of::<PoolReturnRow<'a>>(alloc, list)?.as_slice()),
+        "versions" => add_all(tx, rows_of::<VersionRow<'a>>(alloc, list)?.as_slice()),
+        "recordings" => add_all(tx, rows_of::<RecordingRow<'a>>(alloc, list)?.as_slice()),
+        "verdicts" => add_all(tx, rows_of::<VerdictRow<'a>>(alloc, list)?.as_slice()),
+        "credits" => add_all(tx, rows_of::<CreditRow<'a>>(alloc, list)?.as_slice()),
         _ => return None,
     })
 }
 
-/// Writes one row of pools, money and fronts, of the kind that a word names.
-fn write_sum<S: Alter>(
-    tx: &mut Transaction<'_, S>,
-    word: &str,
-    words: &[&str],
-) -> Option<Result<(), RowFault>> {
-    Some(match (word, words) {
-        ("pool", [pool, units]) => {
-            let (pool, amount) = (count(pool)?, amount(units)?);
-            add(tx, NewRows::Pool(&PoolRow { pool, amount }))
-        }
-        ("mechanical", [pool]) => {
-            let pool = count(pool)?;
-            add(tx, NewRows::MechanicalPool(&MechanicalPoolRow { pool }))
-        }
-        ("balance", [account, units]) => {
-            let (account, units) = (account.as_bytes(), amount(units)?);
-            add(tx, NewRows::Balance(&BalanceRow { account, units }))
-        }
-        ("units", [account, units]) => add_units(tx, account.as_bytes(), amount(units)?),
-        ("front", [sender, front, works]) => {
-            let sender = sender.as_bytes();
-            let (front, works) = (count(front)?, amount(works)?);
-            put_front(
-                tx,
-                &FrontRow {
-                    sender,
-                    front,
-                    works,
-                },
-            )
-        }
-        _ => return None,
-    })
-}
-
-/// Writes one row, or the rows of a list, of the kind that a word names; none where it names no kind.
+/// Writes one row, or the rows of a list by two a statement, of the kind that a word names; none where it names no kind.
 pub fn write<S: Alter>(
     alloc: Global,
     tx: &mut Transaction<'_, S>,
@@ -123,10 +88,7 @@ pub fn write<S: Alter>(
     text: &str,
 ) -> Option<Result<(), RowFault>> {
     let words = text.split(' ').collect::<Vec<&str>>(alloc).ok()?;
-    if let Some(written) = write_row(tx, word, &words) {
-        return Some(written);
-    }
-    match write_sum(tx, word, &words) {
+    match write_row(tx, word, &words) {
         Some(written) => Some(written),
         None => write_list(alloc, tx, word, text),
     }
