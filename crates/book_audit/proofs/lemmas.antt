@@ -1,5 +1,4 @@
 pub mod Among
-pub mod Examinations
 pub mod OwnPools
 pub mod Paid
 pub mod Whole

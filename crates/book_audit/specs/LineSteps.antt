@@ -22,8 +22,9 @@ use Rattle.society_book.specs.Sources.{KeepsSent}
 use Rattle.society_arrivals.specs.declared.outcomes.Outcome.{Outcome}
 use Rattle.works_core.specs.Verdicts.{works_in}
 use Rattle.works_core.specs.Versions.{judged_of}
-use Rattle.book_audit.specs.declared.audit_fault.AuditFault.{AuditFault}
-use Rattle.book_audit.specs.Examining.{Examines, HoldsNot, IsNot}
+use Rattle.society_book.specs.Steps.{Examines}
+use Rattle.society_rows.specs.declared.fault.RowFault.{RowFault}
+use Rattle.book_audit.specs.Examining.{HoldsNot, IsNot}
 use Rattle.book_audit.specs.Alike.{IsExact}
 use Rattle.book_audit.specs.Auditing.{AreSenders, HasLine, HasOutcomes, HasRowsOf, is_of_one}
 
@@ -55,11 +56,11 @@ abbrev pub AnswersFor : (Trees → List Row → Type 0) → Table → List ℕ �
 AnswersFor Answers table sender width = (db : Trees) (rows : List Row) → Answers db rows → Lists table (has_key (Text sender ∷ [])) width db rows
 
 -- an examination of whether the rows that a table has of a sender are these
-abbrev pub Compares : Table → List ℕ → List Row → State → State → Result (Unit {0}) AuditFault → Type 0
+abbrev pub Compares : Table → List ℕ → List Row → State → State → Result (Unit {0}) RowFault → Type 0
 Compares table sender rows old new result = Examines (IsNot (HasRowsOf table sender rows)) old new result (λ db _. HasRowsOf table sender rows db)
 
 -- the same of rows that answer a question, where the rows that are wanted are told apart
-abbrev pub ComparesAnswer : (Trees → List Row → Type 0) → List Row → State → State → Result (Unit {0}) AuditFault → Type 0
+abbrev pub ComparesAnswer : (Trees → List Row → Type 0) → List Row → State → State → Result (Unit {0}) RowFault → Type 0
 ComparesAnswer Answers wanted old new result =
     (table : Table) (sender : List ℕ) (width : ℕ) → AnswersFor Answers table sender width → AllByRecursion IsExact wanted → Compares table sender wanted old new result
 

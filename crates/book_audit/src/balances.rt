@@ -1,15 +1,15 @@
 //! The rows of balances, beside what accounts have come to.
 ghost use Rattle.std.specs.Prelude.{◌≡◌, ◌∷◌, ◌↔◌, [], IfErr, IsTrue, OnOk};
 ghost use Rattle.book_audit.specs.Balances.{DeniesBalances, FindsBalances, TakesOut, row_by_units};
-ghost use Rattle.book_audit.specs.Examining.{Examines, Judges};
+ghost use Rattle.society_book.specs.Errors.{Blames};
+ghost use Rattle.society_book.specs.Steps.{Examines};
 ghost use Rattle.society_book.specs.Columns.{HasRows, text_at};
 ghost use Rattle.society_book.specs.DerivedRows.{is_named};
 ghost use Rattle.society_rows.specs.Between.{Within};
 
-use crate::AuditFault;
 use crate::reading::list_of;
 use crate::totals::Totals;
-use society_rows::TableName;
+use society_rows::{RowFault, TableName};
 use sqlite::{Alter, Row, Transaction};
 use sqlite_value::value::ValueRef;
 use std::collections::BTreeMap;
@@ -35,27 +35,24 @@ fn take_row(left: &mut BTreeMap<Vec<u8>, u64>, row: &Row) -> bool
 }
 
 // That rows are exactly those of accounts with these units; else `Damaged`.
-fn rows_agree(rows: &[Row], units: BTreeMap<Vec<u8>, u64>) -> Result<(), AuditFault>
+fn rows_agree(rows: &[Row], units: BTreeMap<Vec<u8>, u64>) -> Result<(), RowFault>
     ensures agree { OnOk result (HasRows is_named (row_by_units units) rows.now) }
-    ensures judged { IfErr result (Judges (HasRows is_named (row_by_units units) rows.now → ⊥)) }
+    ensures judged { IfErr result (Blames (HasRows is_named (row_by_units units) rows.now → ⊥)) }
 {
     let mut left = units;
     for row in rows {
         if !take_row(&mut left, row) {
-            return Err(AuditFault::Damaged);
+            return Err(RowFault::Damaged);
         }
     }
     if !left.is_empty() {
-        return Err(AuditFault::Damaged);
+        return Err(RowFault::Damaged);
     }
     Ok(())
 }
 
 /// That the rows of balances are exactly what accounts have come to; else `Damaged`.
-pub fn balances_agree<S: Alter>(
-    tx: &mut Transaction<'_, S>,
-    totals: Totals,
-) -> Result<(), AuditFault>
+pub fn balances_agree<S: Alter>(tx: &mut Transaction<'_, S>, totals: Totals) -> Result<(), RowFault>
     ensures examined { Within S.Store tx.old tx.new (Examines (DeniesBalances totals)) result (λ db _. FindsBalances totals db) }
 {
     let rows = list_of(tx, TableName::Balances)?;

@@ -1,13 +1,13 @@
 //! Whether the lines of pools' credits are of these pools alone.
 ghost use Rattle.std.specs.Prelude.{◌≡◌, ◌↔◌, IsTrue};
 ghost use Rattle.std.specs.List.{AllByRecursion};
-ghost use Rattle.book_audit.specs.Examining.{Examines, IsNot};
+ghost use Rattle.book_audit.specs.Examining.{IsNot};
+ghost use Rattle.society_book.specs.Steps.{Examines};
 ghost use Rattle.book_audit.specs.Credits.{AreCreditsOfPools, IsCreditOf};
 ghost use Rattle.society_rows.specs.Between.{Within};
 
-use crate::AuditFault;
 use crate::reading::ask;
-use society_rows::{DerivedTable, Question};
+use society_rows::{DerivedTable, Question, RowFault};
 use sqlite::{Alter, Row, Transaction};
 use sqlite_value::value::ValueRef;
 use std::collections::BTreeSet;
@@ -37,17 +37,17 @@ fn are_of_these(pools: &BTreeSet<u32>, rows: &[Row]) -> bool
     true
 }
 
-/// That each line of credits is of one of these pools; else `Damaged`, and `Memory` or `Store` where memory or the database failed.
+/// That each line of credits is of one of these pools; else `Damaged`, and `Memory` or `Refused` where memory or the database failed.
 pub fn has_no_stranger<S: Alter>(
     tx: &mut Transaction<'_, S>,
     pools: &BTreeSet<u32>,
-) -> Result<(), AuditFault>
+) -> Result<(), RowFault>
     ensures examined { Within S.Store tx.old tx.new (Examines (IsNot (AreCreditsOfPools pools.now))) result (λ db _. AreCreditsOfPools pools.now db) }
 {
     let rows = ask(tx, Question::FirstColumns(DerivedTable::Credits))?;
     if are_of_these(pools, rows.as_slice()) {
         Ok(())
     } else {
-        Err(AuditFault::Damaged)
+        Err(RowFault::Damaged)
     }
 }

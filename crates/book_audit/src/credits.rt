@@ -1,6 +1,8 @@
 //! What a pool pays by the tables, worked out anew in a transaction and compared with the lines of its credits.
 ghost use Rattle.std.specs.Prelude.{◌≡◌, ◌↔◌, IfErr, IfOk, IsTrue};
-ghost use Rattle.book_audit.specs.Examining.{Examines, IsNot, Judges};
+ghost use Rattle.book_audit.specs.Examining.{IsNot};
+ghost use Rattle.society_book.specs.Errors.{Blames};
+ghost use Rattle.society_book.specs.Steps.{Examines};
 ghost use Rattle.book_audit.specs.Credits.{FindsCredits, HasCredits, HasNoPool, credit_lines};
 ghost use Rattle.book_audit.specs.CreditSteps.{ListsOnly};
 ghost use Rattle.pool_split.specs.Credits.{credits_together};
@@ -8,30 +10,29 @@ ghost use Rattle.society_closings.specs.Blamed.{CannotPayAmong};
 ghost use Rattle.society_closings.specs.Closings.{PaysAmong, lines_from};
 ghost use Rattle.society_rows.specs.Between.{Within};
 
-use crate::AuditFault;
 use crate::alike::are_rows;
 use crate::reading::{ask, worked_out};
 use pool_split::{Credit, Portion};
 use share_rules::Office;
 use society_closings::{PoolWorks, line_rows, portions_in, texts_of};
 use society_core::PoolOrder;
-use society_rows::Question;
+use society_rows::{Question, RowFault};
 use sqlite::{Alter, Row, Transaction};
 use std::alloc::Global;
 use work_ids::PoolNumber;
 
 /// What an order pays by the tables, a portion for each recording, out of works that are listed. Where these are those that the order looks for: `Damaged` where no book
-/// whose works the tables have can pay it, and `Memory` or `Store` where memory or the database failed.
+/// whose works the tables have can pay it, and `Memory` or `Refused` where memory or the database failed.
 pub fn paid_by<S: Alter>(
     alloc: Global,
     tx: &mut Transaction<'_, S>,
     office: &Office,
     order: &PoolOrder,
     works: &PoolWorks,
-) -> Result<Vec<Portion>, AuditFault>
+) -> Result<Vec<Portion>, RowFault>
     ensures examined { Within S.Store tx.old tx.new (Examines (CannotPayAmong office.now order.now works.now)) result (λ db portions. PaysAmong office.now order.now works.now db (credits_together portions.items)) }
 {
-    Ok(portions_in(alloc, tx, office, order, works)?)
+    portions_in(alloc, tx, office, order, works)
 }
 
 // Whether rows are the lines of these credits of a pool, from the first on.
@@ -41,9 +42,9 @@ fn are_from(
     first: usize,
     rows: &[Row],
     credits: &[Credit],
-) -> Result<bool, AuditFault>
+) -> Result<bool, RowFault>
     ensures alike { IfOk result (λ alike. IsTrue alike ↔ (rows.now ≡ lines_from pool first credits.now)) }
-    ensures judged { IfErr result (Judges ⊥) }
+    ensures judged { IfErr result (Blames ⊥) }
 {
     let texts = worked_out(texts_of(alloc, credits))?;
     let wanted = worked_out(line_rows(alloc, pool, first, credits, texts.as_slice()))?;
@@ -51,14 +52,9 @@ fn are_from(
 }
 
 // Whether rows are the lines of what a pool pays; one portion's are worked out at a time.
-fn are_lines(
-    alloc: Global,
-    pool: u32,
-    rows: &[Row],
-    portions: &[Portion],
-) -> Result<bool, AuditFault>
+fn are_lines(alloc: Global, pool: u32, rows: &[Row], portions: &[Portion]) -> Result<bool, RowFault>
     ensures alike { IfOk result (λ alike. IsTrue alike ↔ (rows.now ≡ credit_lines pool (credits_together portions.now))) }
-    ensures judged { IfErr result (Judges ⊥) }
+    ensures judged { IfErr result (Blames ⊥) }
 {
     let mut line: usize = 0;
     let mut left = rows;
@@ -82,19 +78,19 @@ fn lines_agree<S: Alter>(
     tx: &mut Transaction<'_, S>,
     pool: u32,
     portions: &[Portion],
-) -> Result<(), AuditFault>
+) -> Result<(), RowFault>
     ensures examined { Within S.Store tx.old tx.new (Examines (IsNot (ListsOnly pool (credits_together portions.now)))) result (λ db _. HasCredits pool (credits_together portions.now) db) }
 {
     let rows = ask(tx, Question::Credits(pool))?;
     if are_lines(alloc, pool, rows.as_slice(), portions)? {
         Ok(())
     } else {
-        Err(AuditFault::Damaged)
+        Err(RowFault::Damaged)
     }
 }
 
 /// What a pool pays by the tables, worked out anew out of works that are listed, where the lines of its credits are just these; else
-/// `Damaged`, and `Memory` or `Store` where memory or the database failed.
+/// `Damaged`, and `Memory` or `Refused` where memory or the database failed.
 pub fn credits_agree<S: Alter>(
     alloc: Global,
     tx: &mut Transaction<'_, S>,
@@ -102,7 +98,7 @@ pub fn credits_agree<S: Alter>(
     pool: PoolNumber,
     order: &PoolOrder,
     works: &PoolWorks,
-) -> Result<Vec<Portion>, AuditFault>
+) -> Result<Vec<Portion>, RowFault>
     ensures examined { Within S.Store tx.old tx.new (Examines (HasNoPool office.now pool order.now works.now)) result (FindsCredits office.now pool order.now works.now) }
 {
     let portions = paid_by(alloc, tx, office, order, works)?;

@@ -1,18 +1,19 @@
 //! The senders of a database whose transmissions, ends and returns may stand in a book.
 ghost use Rattle.std.specs.Prelude.{◌≡◌, ◌++◌, IfOk, IfErr, OnOk, map};
-ghost use Rattle.book_audit.specs.Examining.{Examines, Judges};
+ghost use Rattle.society_book.specs.Errors.{Blames};
+ghost use Rattle.society_book.specs.Steps.{Examines};
 ghost use Rattle.book_audit.specs.OwnRows.{LacksOwn};
 ghost use Rattle.society_core.specs.Keys.{ascending, bytes_cmp};
 ghost use Rattle.society_rows.specs.Between.{Within};
 ghost use Rattle.book_audit.specs.Entries.{AreEndsAbove, HoldsEntries};
 ghost use Rattle.book_audit.specs.Judging.{AreUnder};
 
-use crate::AuditFault;
 use crate::reported::check_returns;
 use crate::sent::sent_in;
 use crate::stated::{are_under_ends, map_of_lasts, stated_in};
 use crate::strangers::set_of;
 use society_core::{SegmentKey, TransmissionKey};
+use society_rows::RowFault;
 use sqlite::{Alter, Transaction};
 use std::alloc::{AllocError, Global};
 use work_ids::SenderKey;
@@ -58,25 +59,25 @@ fn senders_under(
     alloc: Global,
     keys: &[TransmissionKey],
     lasts: &[(SegmentKey, u32)],
-) -> Result<Vec<SenderKey>, AuditFault>
+) -> Result<Vec<SenderKey>, RowFault>
     ensures fits { IfOk result (λ _. AreUnder keys.now lasts.now) }
     ensures senders { IfOk result (λ all. all.items ≡ ascending bytes_cmp (map (λ key. key.sender) keys.now ++ map (λ last. last.0.sender) lasts.now)) }
-    ensures judged { IfErr result (Judges (AreUnder keys.now lasts.now → ⊥)) }
+    ensures judged { IfErr result (Blames (AreUnder keys.now lasts.now → ⊥)) }
 {
     let ends = map_of_lasts(alloc, lasts)?;
     if !are_under_ends(&ends, keys) {
-        return Err(AuditFault::Damaged);
+        return Err(RowFault::Damaged);
     }
     Ok(senders_of(alloc, keys, lasts)?)
 }
 
 /// The senders of the transmissions and of the ends of a database, ascending, each once. `Damaged` where a transmission, an end or a
-/// return may not stand in a book, a key stands twice, or a transmission is above the end of its segment; `Memory` or `Store` where
+/// return may not stand in a book, a key stands twice, or a transmission is above the end of its segment; `Memory` or `Refused` where
 /// memory or the database failed. Of the bodies one at a time is kept.
 pub fn entries_in<S: Alter>(
     alloc: Global,
     tx: &mut Transaction<'_, S>,
-) -> Result<Vec<SenderKey>, AuditFault>
+) -> Result<Vec<SenderKey>, RowFault>
     ensures examined { Within S.Store tx.old tx.new (Examines LacksOwn) result (λ db senders. HoldsEntries senders.items db × AreEndsAbove db) }
 {
     let keys = sent_in(alloc, tx)?;

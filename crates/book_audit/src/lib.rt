@@ -3,7 +3,6 @@
 #![tactic(auto)]
 
 mod alike;
-mod audit_fault;
 mod auditing;
 mod balances;
 mod credit_owners;
@@ -24,7 +23,6 @@ mod stated;
 mod strangers;
 mod totals;
 
-pub use audit_fault::AuditFault;
 pub use auditing::audit;
 pub use credits::paid_by;
 pub use entries::entries_in;

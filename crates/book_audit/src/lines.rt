@@ -1,10 +1,11 @@
 //! What is derived of the transmissions of a database, worked out sender by sender in a transaction and compared with its rows; of the
 //! bodies one at a time is kept, and of what is worked out a sender's.
 ghost use Rattle.std.specs.Prelude.{◌≡◌, ◌∷◌, [], flat_map, map, IfErr, IfOk, Ok};
-ghost use Rattle.book_audit.specs.Examining.{Examines, HoldsNot, IsNot};
+ghost use Rattle.book_audit.specs.Examining.{HoldsNot, IsNot};
+ghost use Rattle.society_book.specs.Steps.{Examines};
+ghost use Rattle.society_rows.specs.declared.fault.RowFault.TheVariants.{Memory};
 ghost use Rattle.book_audit.specs.Auditing.{AreLinesOf, AreSenders, HasRun};
 ghost use Rattle.book_audit.specs.LineSteps.{Compares, ComparesAnswer, DeniesLine, DeniesLines, FindsLine, FindsLines, HasSettled, SettlesLine};
-ghost use Rattle.book_audit.specs.declared.audit_fault.AuditFault.TheVariants.{Memory};
 ghost use Rattle.society_book.specs.BookRows.{book_of};
 ghost use Rattle.society_arrivals.specs.Going.{IsWholeIn};
 ghost use Rattle.society_arrivals.specs.Outcomes.{settled};
@@ -16,7 +17,6 @@ ghost use Rattle.society_rows.specs.Questions.{RowsAnswer};
 ghost use Rattle.society_rows.specs.Rows.{front_values};
 ghost use Rattle.works_core.specs.Ends.{EndsAt};
 
-use crate::AuditFault;
 use crate::alike::{Columns, are_alike};
 use crate::reading::{ask, worked_out};
 use crate::strangers::has_no_stranger;
@@ -32,17 +32,17 @@ use std::alloc::{AllocError, Global};
 use work_ids::{SenderKey, WorkNumber};
 use works_core::LineEnd;
 
-/// The run of a sender's whole line, as an office notes it; `Damaged` where what was sent is that of no book, and `Memory` or `Store` where
+/// The run of a sender's whole line, as an office notes it; `Damaged` where what was sent is that of no book, and `Memory` or `Refused` where
 /// memory or the database failed.
 pub fn run_of<S: Alter>(
     alloc: Global,
     tx: &mut Transaction<'_, S>,
     office: &Office,
     sender: &SenderKey,
-) -> Result<Run, AuditFault>
+) -> Result<Run, RowFault>
     ensures examined { Within S.Store tx.old tx.new (Examines KeepsUnsound) result (IsWholeIn office.now sender.now) }
 {
-    Ok(whole_run(alloc, tx, office, sender)?)
+    whole_run(alloc, tx, office, sender)
 }
 
 // The end of a line of no transmission, at which it is known of these works that they have no version.
@@ -61,7 +61,7 @@ fn rows_agree<S: Alter, R: Columns>(
     tx: &mut Transaction<'_, S>,
     question: Question<'_>,
     wanted: &mut Vec<R>,
-) -> Result<(), AuditFault>
+) -> Result<(), RowFault>
     ensures same_reference { tx.new.conn.ghost_name ≡ tx.old.conn.ghost_name }
     ensures examined { within S.Store tx.old tx.new (ComparesAnswer (RowsAnswer question.entry) (map R.values wanted.old.items)) result }
 {
@@ -69,7 +69,7 @@ fn rows_agree<S: Alter, R: Columns>(
     if are_alike(&mut rows, wanted)? {
         Ok(())
     } else {
-        Err(AuditFault::Damaged)
+        Err(RowFault::Damaged)
     }
 }
 
@@ -78,7 +78,7 @@ fn front_agrees<S: Alter>(
     alloc: Global,
     tx: &mut Transaction<'_, S>,
     front: &FrontRow<'_>,
-) -> Result<(), AuditFault>
+) -> Result<(), RowFault>
     ensures same_reference { tx.new.conn.ghost_name ≡ tx.old.conn.ghost_name }
     ensures examined { within S.Store tx.old tx.new (Compares layout.fronts front.now.sender.now (front_values front.now ∷ [])) result }
 {
@@ -93,7 +93,7 @@ fn verdicts_agree<S: Alter>(
     tx: &mut Transaction<'_, S>,
     sender: &[u8],
     outcomes: &[Outcome<'_>],
-) -> Result<(), AuditFault>
+) -> Result<(), RowFault>
     ensures same_reference { tx.new.conn.ghost_name ≡ tx.old.conn.ghost_name }
     ensures examined { within S.Store tx.old tx.new (Compares layout.verdicts sender.now (map (λ x. settled_verdict sender.now (settled x)) outcomes.now)) result }
 {
@@ -107,7 +107,7 @@ fn versions_agree<S: Alter>(
     tx: &mut Transaction<'_, S>,
     sender: &[u8],
     outcomes: &[Outcome<'_>],
-) -> Result<(), AuditFault>
+) -> Result<(), RowFault>
     ensures same_reference { tx.new.conn.ghost_name ≡ tx.old.conn.ghost_name }
     ensures examined { within S.Store tx.old tx.new (Compares layout.versions sender.now (flat_map (λ x. settled_version sender.now (settled x)) outcomes.now)) result }
 {
@@ -121,7 +121,7 @@ fn recordings_agree<S: Alter>(
     tx: &mut Transaction<'_, S>,
     sender: &[u8],
     outcomes: &[Outcome<'_>],
-) -> Result<(), AuditFault>
+) -> Result<(), RowFault>
     ensures same_reference { tx.new.conn.ghost_name ≡ tx.old.conn.ghost_name }
     ensures examined { within S.Store tx.old tx.new (Compares layout.recordings sender.now (flat_map (λ x. settled_recordings sender.now (settled x)) outcomes.now)) result }
 {
@@ -135,7 +135,7 @@ fn outcomes_agree<S: Alter>(
     tx: &mut Transaction<'_, S>,
     front: &FrontRow<'_>,
     outcomes: &[Outcome<'_>],
-) -> Result<(), AuditFault>
+) -> Result<(), RowFault>
     ensures examined { Within S.Store tx.old tx.new (Examines (IsNot (HasSettled front.now outcomes.now))) result (λ db _. HasSettled front.now outcomes.now db) }
 {
     front_agrees(alloc, tx, front)?;
@@ -150,7 +150,7 @@ pub fn settled_line<'a>(
     alloc: Global,
     sender: &'a SenderKey,
     run: &'a Run,
-) -> Result<(FrontRow<'a>, Vec<Outcome<'a>>), AuditFault>
+) -> Result<(FrontRow<'a>, Vec<Outcome<'a>>), RowFault>
     ensures settled { IfOk result (λ line. SettlesLine sender.now run.now line.0 line.1.items) }
     ensures memory { IfErr result (λ fault. fault ≡ Memory) }
 {
@@ -171,7 +171,7 @@ fn run_agrees<S: Alter>(
     tx: &mut Transaction<'_, S>,
     sender: &SenderKey,
     run: &Run,
-) -> Result<(), AuditFault>
+) -> Result<(), RowFault>
     ensures examined { Within S.Store tx.old tx.new (Examines (IsNot (HasRun sender.now run.now))) result (λ db _. HasRun sender.now run.now db) }
 {
     let (front, outcomes) = settled_line(alloc, sender, run)?;
@@ -184,7 +184,7 @@ fn line_agrees<S: Alter>(
     tx: &mut Transaction<'_, S>,
     office: &Office,
     sender: &SenderKey,
-) -> Result<(), AuditFault>
+) -> Result<(), RowFault>
     ensures examined { Within S.Store tx.old tx.new (Examines (DeniesLine office.now sender.now)) result (λ db _. FindsLine office.now sender.now db) }
 {
     let run = run_of(alloc, tx, office, sender)?;
@@ -197,7 +197,7 @@ fn each_agrees<S: Alter>(
     tx: &mut Transaction<'_, S>,
     office: &Office,
     senders: &[SenderKey],
-) -> Result<(), AuditFault>
+) -> Result<(), RowFault>
     ensures examined { Within S.Store tx.old tx.new (Examines (DeniesLines office.now senders.now)) result (λ db _. FindsLines office.now senders.now db) }
 {
     for sender in senders {
@@ -207,14 +207,14 @@ fn each_agrees<S: Alter>(
 }
 
 /// That a database has of each of these senders exactly what is derived of its transmissions, and of nobody else anything; else
-/// `Damaged`, and `Memory` or `Store` where memory or the database failed. Of the bodies one at a time is kept, and of what is worked out
+/// `Damaged`, and `Memory` or `Refused` where memory or the database failed. Of the bodies one at a time is kept, and of what is worked out
 /// a sender's.
 pub fn lines_agree<S: Alter>(
     alloc: Global,
     tx: &mut Transaction<'_, S>,
     office: &Office,
     senders: &[SenderKey],
-) -> Result<(), AuditFault>
+) -> Result<(), RowFault>
     ensures examined { Within S.Store tx.old tx.new (Examines (λ db. AreSenders (book_of db) senders.now → HoldsNot office.now db)) result
         (λ db _. FindsLines office.now senders.now db × AreLinesOf senders.now db) }
 {

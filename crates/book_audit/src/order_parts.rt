@@ -1,16 +1,15 @@
 //! What the orders of pools say, by the pools' numbers, out of the rows of all of them: each row is read once, however many pools there are.
 ghost use Rattle.std.specs.Prelude.{◌≡◌, ◌++◌, ℕ, IfErr, IfOk, OnOk};
 ghost use Rattle.std.specs.List.{AllByRecursion};
-ghost use Rattle.book_audit.specs.Examining.{Judges};
+ghost use Rattle.society_book.specs.Errors.{Blames};
 ghost use Rattle.book_audit.specs.OrderParts.{AreCutsOf, AreMarksOf, StandOnce, ArePaidOf, ArePartsOf, IsKnownCut, IsKnownMark, IsKnownPaid, Numbers, cut_kept, item_at, items_kept, kind_kept, returns_kept};
 ghost use Rattle.book_audit.specs.Pools.{ArePools};
 ghost use Rattle.society_core.specs.Book.{Book, IsSound};
 ghost use Rattle.society_rows.specs.Forms.{IsOfForms, pool_forms};
 
-use crate::AuditFault;
 use crate::pool_tables::PoolRows;
 use share_rules::Kind;
-use society_rows::{MechanicalPoolRow, PoolCutRow, PoolReturnRow, PoolRow};
+use society_rows::{MechanicalPoolRow, PoolCutRow, PoolReturnRow, PoolRow, RowFault};
 use sqlite::Row;
 use std::alloc::{AllocError, Global};
 use std::collections::{BTreeMap, BTreeSet};
@@ -54,17 +53,17 @@ fn items_of<T>(lists: &BTreeMap<u32, Vec<T>>, pool: u32) -> &[T]
 }
 
 // The numbers of pools; `Damaged` where a row cannot be read, or a number stands twice.
-fn numbers_of(alloc: Global, rows: &[Row]) -> Result<BTreeSet<u32>, AuditFault>
+fn numbers_of(alloc: Global, rows: &[Row]) -> Result<BTreeSet<u32>, RowFault>
     ensures numbers { IfOk result (Numbers rows.now) }
-    ensures judged { IfErr result (Judges (AllByRecursion (IsOfForms pool_forms) rows.now → StandOnce rows.now → ⊥)) }
+    ensures judged { IfErr result (Blames (AllByRecursion (IsOfForms pool_forms) rows.now → StandOnce rows.now → ⊥)) }
 {
     let mut numbers = BTreeSet::new(alloc);
     for row in rows {
         let Ok(row) = PoolRow::from_row(row) else {
-            return Err(AuditFault::Damaged);
+            return Err(RowFault::Damaged);
         };
         if !numbers.insert(row.pool)? {
-            return Err(AuditFault::Damaged);
+            return Err(RowFault::Damaged);
         }
     }
     Ok(numbers)
@@ -75,20 +74,20 @@ fn cuts_of(
     alloc: Global,
     pools: &BTreeSet<u32>,
     rows: &[Row],
-) -> Result<BTreeMap<u32, Vec<(SenderKey, u64)>>, AuditFault>
+) -> Result<BTreeMap<u32, Vec<(SenderKey, u64)>>, RowFault>
     ensures cuts { IfOk result (AreCutsOf pools.now rows.now) }
-    ensures judged { IfErr result (Judges (AllByRecursion (IsKnownCut pools.now) rows.now → ⊥)) }
+    ensures judged { IfErr result (Blames (AllByRecursion (IsKnownCut pools.now) rows.now → ⊥)) }
 {
     let mut cuts = BTreeMap::new(alloc);
     for row in rows {
         let Ok(row) = PoolCutRow::from_row(row) else {
-            return Err(AuditFault::Damaged);
+            return Err(RowFault::Damaged);
         };
         let Ok(sender) = SenderKey::from_bytes(row.sender) else {
-            return Err(AuditFault::Damaged);
+            return Err(RowFault::Damaged);
         };
         if !pools.contains(&row.pool) {
-            return Err(AuditFault::Damaged);
+            return Err(RowFault::Damaged);
         }
         append(alloc, &mut cuts, row.pool, (sender, u64::from(row.number)))?;
     }
@@ -100,23 +99,23 @@ fn returns_of(
     alloc: Global,
     pools: &BTreeSet<u32>,
     rows: &[Row],
-) -> Result<BTreeMap<u32, Vec<(Reporter, u64)>>, AuditFault>
+) -> Result<BTreeMap<u32, Vec<(Reporter, u64)>>, RowFault>
     ensures returns { IfOk result (ArePaidOf pools.now rows.now) }
-    ensures judged { IfErr result (Judges (AllByRecursion (IsKnownPaid pools.now) rows.now → ⊥)) }
+    ensures judged { IfErr result (Blames (AllByRecursion (IsKnownPaid pools.now) rows.now → ⊥)) }
 {
     let mut returns = BTreeMap::new(alloc);
     for row in rows {
         let Ok(row) = PoolReturnRow::from_row(row) else {
-            return Err(AuditFault::Damaged);
+            return Err(RowFault::Damaged);
         };
         let Ok(reporter) = Reporter::from_bytes(row.reporter) else {
-            return Err(AuditFault::Damaged);
+            return Err(RowFault::Damaged);
         };
         if reporter.as_bytes() != row.reporter {
-            return Err(AuditFault::Damaged);
+            return Err(RowFault::Damaged);
         }
         if !pools.contains(&row.pool) {
-            return Err(AuditFault::Damaged);
+            return Err(RowFault::Damaged);
         }
         append(
             alloc,
@@ -129,24 +128,20 @@ fn returns_of(
 }
 
 // The pools that are marked; `Damaged` where a row cannot be read, is of another pool, or stands twice.
-fn marked_in(
-    alloc: Global,
-    pools: &BTreeSet<u32>,
-    rows: &[Row],
-) -> Result<BTreeSet<u32>, AuditFault>
+fn marked_in(alloc: Global, pools: &BTreeSet<u32>, rows: &[Row]) -> Result<BTreeSet<u32>, RowFault>
     ensures marks { IfOk result (AreMarksOf pools.now rows.now) }
-    ensures judged { IfErr result (Judges (AllByRecursion (IsKnownMark pools.now) rows.now → StandOnce rows.now → ⊥)) }
+    ensures judged { IfErr result (Blames (AllByRecursion (IsKnownMark pools.now) rows.now → StandOnce rows.now → ⊥)) }
 {
     let mut marked = BTreeSet::new(alloc);
     for row in rows {
         let Ok(mark) = MechanicalPoolRow::from_row(row) else {
-            return Err(AuditFault::Damaged);
+            return Err(RowFault::Damaged);
         };
         if !pools.contains(&mark.pool) {
-            return Err(AuditFault::Damaged);
+            return Err(RowFault::Damaged);
         }
         if !marked.insert(mark.pool)? {
-            return Err(AuditFault::Damaged);
+            return Err(RowFault::Damaged);
         }
     }
     Ok(marked)
@@ -154,9 +149,9 @@ fn marked_in(
 
 impl OrderParts {
     /// What these rows say; `Damaged` where one cannot be read, a pool or a mark stands twice, or a cut, a return or a mark is of no pool.
-    pub(crate) fn of_rows(alloc: Global, rows: &PoolRows) -> Result<OrderParts, AuditFault>
+    pub(crate) fn of_rows(alloc: Global, rows: &PoolRows) -> Result<OrderParts, RowFault>
         ensures parts { IfOk result (ArePartsOf rows.now) }
-        ensures judged { IfErr result (Judges ((b : Book) → IsSound b → ArePools b rows.now → ⊥)) }
+        ensures judged { IfErr result (Blames ((b : Book) → IsSound b → ArePools b rows.now → ⊥)) }
     {
         let pools = numbers_of(alloc, rows.pools.as_slice())?;
         let cuts = cuts_of(alloc, &pools, rows.cuts.as_slice())?;

@@ -1,13 +1,13 @@
 //! What closed pools pay, worked out anew and compared with the lines of credits and with the balances.
 ghost use Rattle.std.specs.Prelude.{◌≡◌, IfOk, OnOk};
-ghost use Rattle.book_audit.specs.Examining.{Examines, HoldsNot};
+ghost use Rattle.book_audit.specs.Examining.{HoldsNot};
+ghost use Rattle.society_book.specs.Steps.{Examines};
 ghost use Rattle.book_audit.specs.Paying.{AreNumbersOf, CannotPayAny, CompletesBook, DeniesPools, FindsPaid, FindsPaidAmong, FindsPools, LackPools, LackPoolsAmong, ListsForAll, WantsAll, WantsOrder};
 ghost use Rattle.society_closings.specs.Blamed.{HoldNoWorks, LackReturns};
 ghost use Rattle.society_closings.specs.CutWorks.{WantsMore};
 ghost use Rattle.society_closings.specs.Weighing.{AreWorksWeighed};
 ghost use Rattle.society_rows.specs.Between.{Within};
 
-use crate::AuditFault;
 use crate::balances::balances_agree;
 use crate::credit_owners::has_no_stranger;
 use crate::credits::credits_agree;
@@ -17,6 +17,7 @@ use crate::totals::Totals;
 use share_rules::{Kind, Office};
 use society_closings::{PoolWorks, Wanted};
 use society_core::PoolOrder;
+use society_rows::RowFault;
 use sqlite::{Alter, Transaction};
 use std::alloc::{AllocError, Global};
 use std::collections::BTreeSet;
@@ -27,7 +28,7 @@ fn add_order<S: Alter>(
     tx: &mut Transaction<'_, S>,
     order: &PoolOrder,
     wanted: &mut Wanted,
-) -> Result<(), AuditFault>
+) -> Result<(), RowFault>
     ensures more { OnOk result (WantsMore wanted.old wanted.new) }
     ensures examined { Within S.Store tx.old tx.new (Examines (LackReturns order.now.returns)) result (λ db _. WantsOrder order.now db wanted.new) }
 {
@@ -40,7 +41,7 @@ fn wanted_by<S: Alter>(
     alloc: Global,
     tx: &mut Transaction<'_, S>,
     closed: &[ClosedPool],
-) -> Result<Wanted, AuditFault>
+) -> Result<Wanted, RowFault>
     ensures examined { Within S.Store tx.old tx.new (Examines (CannotPayAny closed.now)) result (WantsAll closed.now) }
 {
     let mut wanted = Wanted::new(alloc);
@@ -59,14 +60,14 @@ fn weigh_in<S: Alter>(
     kind: Kind,
     wanted: &Wanted,
     works: &mut PoolWorks,
-) -> Result<(), AuditFault>
+) -> Result<(), RowFault>
     ensures listed { OnOk result (works.new.listed ≡ works.old.listed) }
     ensures examined { Within S.Store tx.old tx.new (Examines HoldNoWorks) result (λ db _. AreWorksWeighed office.now db works.old → AreWorksWeighed office.now db works.new) }
 {
     if !closed.iter().any(|one| one.order.kind() == kind) {
         return Ok(());
     }
-    Ok(works.weigh(alloc, tx, office, kind, wanted)?)
+    works.weigh(alloc, tx, office, kind, wanted)
 }
 
 // Weighs the works of pools in each right that one of them pays; `Damaged` where the tables have the works of no book.
@@ -77,7 +78,7 @@ fn weigh<S: Alter>(
     closed: &[ClosedPool],
     wanted: &Wanted,
     works: &mut PoolWorks,
-) -> Result<(), AuditFault>
+) -> Result<(), RowFault>
     ensures listed { OnOk result (works.new.listed ≡ works.old.listed) }
     ensures examined { Within S.Store tx.old tx.new (Examines HoldNoWorks) result (λ db _. AreWorksWeighed office.now db works.old → AreWorksWeighed office.now db works.new) }
 {
@@ -86,13 +87,13 @@ fn weigh<S: Alter>(
 }
 
 /// The works that closed pools look for, listed in one pass for all of them, and weighed once for all of them; `Damaged` where no book
-/// whose works the tables have can pay them, and `Memory` or `Store` where memory or the database failed.
+/// whose works the tables have can pay them, and `Memory` or `Refused` where memory or the database failed.
 pub fn works_of<S: Alter>(
     alloc: Global,
     tx: &mut Transaction<'_, S>,
     office: &Office,
     closed: &[ClosedPool],
-) -> Result<PoolWorks, AuditFault>
+) -> Result<PoolWorks, RowFault>
     ensures examined { Within S.Store tx.old tx.new (Examines (CannotPayAny closed.now)) result (ListsForAll office.now closed.now) }
 {
     let wanted = wanted_by(alloc, tx, closed)?;
@@ -109,7 +110,7 @@ fn totals_among<S: Alter>(
     office: &Office,
     closed: &[ClosedPool],
     works: &PoolWorks,
-) -> Result<Totals, AuditFault>
+) -> Result<Totals, RowFault>
     ensures examined { Within S.Store tx.old tx.new (Examines (LackPoolsAmong office.now closed.now works.now)) result (FindsPaidAmong office.now closed.now works.now) }
 {
     let mut totals = Totals::new(alloc);
@@ -126,7 +127,7 @@ fn totals_of<S: Alter>(
     tx: &mut Transaction<'_, S>,
     office: &Office,
     closed: &[ClosedPool],
-) -> Result<Totals, AuditFault>
+) -> Result<Totals, RowFault>
     ensures examined { Within S.Store tx.old tx.new (Examines (LackPools office.now closed.now)) result (FindsPaid office.now closed.now closed.now) }
 {
     let works = works_of(alloc, tx, office, closed)?;
@@ -150,7 +151,7 @@ fn pools_agree<S: Alter>(
     tx: &mut Transaction<'_, S>,
     office: &Office,
     closed: &[ClosedPool],
-) -> Result<(), AuditFault>
+) -> Result<(), RowFault>
     ensures examined { Within S.Store tx.old tx.new (Examines (DeniesPools office.now closed.now)) result (λ db _. FindsPools office.now closed.now db) }
 {
     let totals = totals_of(alloc, tx, office, closed)?;
@@ -160,12 +161,12 @@ fn pools_agree<S: Alter>(
 }
 
 /// That the pools of a database are those of the book that it stands for, and its credits and balances what they pay; else `Damaged`, and
-/// `Memory` or `Store` where memory or the database failed. Memory is that of the orders and of the accounts.
+/// `Memory` or `Refused` where memory or the database failed. Memory is that of the orders and of the accounts.
 pub(crate) fn money_agrees<S: Alter>(
     alloc: Global,
     tx: &mut Transaction<'_, S>,
     office: &Office,
-) -> Result<(), AuditFault>
+) -> Result<(), RowFault>
     ensures examined { Within S.Store tx.old tx.new (Examines (HoldsNot office.now)) result (λ db _. CompletesBook office.now db) }
 {
     let closed = orders_in(alloc, tx)?;

@@ -1,21 +1,17 @@
 //! How far the senders of cuts came, each read once.
-ghost use Rattle.std.specs.Prelude.{◌≡◌, ◌<◌, ◌^◌, ℕ, pos, Some, true};
-ghost use Rattle.sqlite_value.specs.Order.{column};
-ghost use Rattle.sqlite_value.specs.declared.value.Value.TheVariants.{Int};
-ghost use Rattle.book_audit.specs.Examining.{Examines};
+ghost use Rattle.std.specs.Prelude.{◌≡◌, true};
+ghost use Rattle.society_book.specs.Steps.{Examines};
 ghost use Rattle.book_audit.specs.Standing.{HoldsNoLines, IsReachKnown, IsReach, KnowsReach, LearnsReach, OfLines, TellsCut};
 ghost use Rattle.society_core.specs.Book.{front, is_applied};
 ghost use Rattle.society_book.specs.EndLists.{ReadsEnds};
 ghost use Rattle.society_rows.specs.Between.{Within};
 ghost use Rattle.sqlite_trees.specs.Tree.{Trees};
 
-use crate::AuditFault;
 use crate::reading::ask;
-use society_book::{SenderEnds, ends_in};
+use society_book::{SenderEnds, ends_in, shown_front};
 use society_core::TransmissionKey;
-use society_rows::Question;
-use sqlite::{Alter, Row, Transaction};
-use sqlite_value::value::ValueRef;
+use society_rows::{Question, RowFault};
+use sqlite::{Alter, Transaction};
 use std::alloc::Global;
 use std::collections::BTreeMap;
 use work_ids::SenderKey;
@@ -33,46 +29,26 @@ pub(crate) struct Reached {
     by_sender: BTreeMap<SenderKey, Reach>,
 }
 
-// The front that the row of a sender says, none where it says no number of that size.
-fn front_of(row: &Row) -> Option<u32>
-    ensures { (n : ℕ) → n < 2 ^ 32 → column row.now 1 ≡ Int (pos n) → result ≡ Some n }
-{
-    let Ok(ValueRef::Int(front)) = row.get_ref(1) else {
-        return None;
-    };
-    match u32::try_from(front) {
-        Ok(front) => Some(front),
-        Err(_) => None,
-    }
-}
-
 // A sender's front; `Damaged` where its rows do not say one.
-fn front_in<S: Alter>(tx: &mut Transaction<'_, S>, sender: &SenderKey) -> Result<u32, AuditFault>
+fn front_in<S: Alter>(tx: &mut Transaction<'_, S>, sender: &SenderKey) -> Result<u32, RowFault>
     ensures examined { Within S.Store tx.old tx.new (Examines HoldsNoLines) result (λ db n. OfLines (λ book. n ≡ front book sender.now) db) }
 {
     let rows = ask(tx, Question::Front(sender.as_bytes()))?;
-    match rows.as_slice() {
-        [] => Ok(0),
-        [row] => match front_of(row) {
-            Some(front) => Ok(front),
-            None => Err(AuditFault::Damaged),
-        },
-        _ => Err(AuditFault::Damaged),
-    }
+    shown_front(rows.as_slice())
 }
 
 // The ends that a sender stated; `Damaged` where its rows do not say them.
 fn ends_of<S: Alter>(
     tx: &mut Transaction<'_, S>,
     sender: &SenderKey,
-) -> Result<SenderEnds, AuditFault>
+) -> Result<SenderEnds, RowFault>
     ensures examined { Within S.Store tx.old tx.new (Examines HoldsNoLines) result (ReadsEnds sender.now) }
 {
-    Ok(ends_in(tx, sender.as_bytes())?)
+    ends_in(tx, sender.as_bytes())
 }
 
 // How far a sender came.
-fn reach_of<S: Alter>(tx: &mut Transaction<'_, S>, sender: &SenderKey) -> Result<Reach, AuditFault>
+fn reach_of<S: Alter>(tx: &mut Transaction<'_, S>, sender: &SenderKey) -> Result<Reach, RowFault>
     ensures examined { Within S.Store tx.old tx.new (Examines HoldsNoLines) result (IsReach sender.now) }
 {
     let ends = ends_of(tx, sender)?;
@@ -95,7 +71,7 @@ impl Reached {
         &mut self,
         tx: &mut Transaction<'_, S>,
         sender: &SenderKey,
-    ) -> Result<(), AuditFault>
+    ) -> Result<(), RowFault>
         ensures examined { Within S.Store tx.old tx.new (Examines HoldsNoLines) result (λ db _. LearnsReach sender.now self.old self.new db) }
     {
         if self.by_sender.contains_key(sender) {
@@ -121,7 +97,7 @@ impl Reached {
         &mut self,
         tx: &mut Transaction<'_, S>,
         cut: &[TransmissionKey],
-    ) -> Result<bool, AuditFault>
+    ) -> Result<bool, RowFault>
         ensures examined { Within S.Store tx.old tx.new (Examines HoldsNoLines) result
             (λ db told. KnowsReach db self.old → KnowsReach db self.new × TellsCut cut.now db told) }
     {

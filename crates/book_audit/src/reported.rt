@@ -1,17 +1,16 @@
 //! The rows of returns, each read by its key: of a body nothing is kept.
 ghost use Rattle.std.specs.Prelude.{◌≡◌, Some, None, IfOk, false, true, if◌then◌else◌};
-ghost use Rattle.book_audit.specs.Examining.{Examines};
+ghost use Rattle.society_book.specs.Steps.{Examines};
 ghost use Rattle.society_book.specs.BookRows.{return_key_of};
 ghost use Rattle.society_rows.specs.Between.{Within};
 ghost use Rattle.work_ids.specs.Blanks.{fill};
 ghost use Rattle.book_audit.specs.Entries.{is_right_return};
 ghost use Rattle.book_audit.specs.Judging.{AreReported, is_one_right, is_reported_at, is_reported_key, is_reporter_spelled};
 
-use crate::AuditFault;
 use crate::reading::ask;
 use perf_returns::{ReturnError, read_return};
 use society_core::ReturnKey;
-use society_rows::{Question, ReturnRow, TransmissionKeyRow};
+use society_rows::{Question, ReturnRow, RowFault, TransmissionKeyRow};
 use sqlite::{Alter, Row, Transaction};
 use std::alloc::{AllocError, Global};
 use work_ids::{Reporter, ReturnNumber};
@@ -67,15 +66,11 @@ fn reported_key(row: &Row) -> Option<ReturnKey>
 }
 
 // That a row is the key of a return, and the database has one return under it that may stand in a book; `Damaged` where it is not so.
-fn check_at<S: Alter>(
-    alloc: Global,
-    tx: &mut Transaction<'_, S>,
-    row: &Row,
-) -> Result<(), AuditFault>
+fn check_at<S: Alter>(alloc: Global, tx: &mut Transaction<'_, S>, row: &Row) -> Result<(), RowFault>
     ensures examined { Within S.Store tx.old tx.new (Examines (λ db. is_reported_at db row.now ≡ false)) result (λ db _. is_reported_at db row.now ≡ true) }
 {
     let Some(key) = reported_key(row) else {
-        return Err(AuditFault::Damaged);
+        return Err(RowFault::Damaged);
     };
     let rows = ask(
         tx,
@@ -84,7 +79,7 @@ fn check_at<S: Alter>(
     if is_alone_right(alloc, rows.as_slice())? {
         Ok(())
     } else {
-        Err(AuditFault::Damaged)
+        Err(RowFault::Damaged)
     }
 }
 
@@ -92,7 +87,7 @@ fn check_at<S: Alter>(
 pub(crate) fn check_returns<S: Alter>(
     alloc: Global,
     tx: &mut Transaction<'_, S>,
-) -> Result<(), AuditFault>
+) -> Result<(), RowFault>
     ensures examined { Within S.Store tx.old tx.new (Examines (λ db. AreReported db → ⊥)) result (λ db _. AreReported db) }
 {
     let rows = ask(tx, Question::ReturnKeys)?;

@@ -1,16 +1,15 @@
 //! The rows of transmissions, each read by its key: of a body nothing is kept.
 ghost use Rattle.std.specs.Prelude.{◌≡◌, Some, None, false, true, if◌then◌else◌};
-ghost use Rattle.book_audit.specs.Examining.{Examines};
+ghost use Rattle.society_book.specs.Steps.{Examines};
 ghost use Rattle.society_book.specs.BookRows.{transmission_key_of};
 ghost use Rattle.society_rows.specs.Between.{Within};
 ghost use Rattle.book_audit.specs.Entries.{is_right_sent};
 ghost use Rattle.book_audit.specs.Judging.{AreSent, AreSentKeys, is_one_right, is_sent_at, is_sent_key};
 
-use crate::AuditFault;
 use crate::reading::ask;
 use cwr_files::find_fault;
 use society_core::TransmissionKey;
-use society_rows::{Question, TransmissionKeyRow, TransmissionRow};
+use society_rows::{Question, RowFault, TransmissionKeyRow, TransmissionRow};
 use sqlite::{Alter, Row, Transaction};
 use std::alloc::Global;
 use work_ids::{SenderKey, TransmissionNumber};
@@ -57,12 +56,12 @@ fn sent_key(row: &Row) -> Option<TransmissionKey>
 
 // The key of a transmission that a row is; `Damaged` where it is none, or where the database has not one transmission under it that may
 // stand in a book.
-fn sent_at<S: Alter>(tx: &mut Transaction<'_, S>, row: &Row) -> Result<TransmissionKey, AuditFault>
+fn sent_at<S: Alter>(tx: &mut Transaction<'_, S>, row: &Row) -> Result<TransmissionKey, RowFault>
     ensures examined { Within S.Store tx.old tx.new (Examines (λ db. is_sent_at db row.now ≡ false)) result
         (λ db key. (key ≡ transmission_key_of row.now) × (is_sent_at db row.now ≡ true)) }
 {
     let Some(key) = sent_key(row) else {
-        return Err(AuditFault::Damaged);
+        return Err(RowFault::Damaged);
     };
     let rows = ask(
         tx,
@@ -71,7 +70,7 @@ fn sent_at<S: Alter>(tx: &mut Transaction<'_, S>, row: &Row) -> Result<Transmiss
     if is_alone_right(rows.as_slice()) {
         Ok(key)
     } else {
-        Err(AuditFault::Damaged)
+        Err(RowFault::Damaged)
     }
 }
 
@@ -79,7 +78,7 @@ fn sent_at<S: Alter>(tx: &mut Transaction<'_, S>, row: &Row) -> Result<Transmiss
 pub(crate) fn sent_in<S: Alter>(
     alloc: Global,
     tx: &mut Transaction<'_, S>,
-) -> Result<Vec<TransmissionKey>, AuditFault>
+) -> Result<Vec<TransmissionKey>, RowFault>
     ensures examined { Within S.Store tx.old tx.new (Examines (λ db. AreSent db → ⊥)) result (λ db keys. AreSent db × AreSentKeys db keys.items) }
 {
     let rows = ask(tx, Question::TransmissionKeys)?;

@@ -3,17 +3,17 @@ ghost use Rattle.std.specs.Prelude.{◌≡◌, ◌&&◌, IfOk};
 ghost use Rattle.std.specs.List.{AllByRecursion};
 ghost use Rattle.book_audit.specs.declared.pool_orders.ClosedPool.{ClosedPool as ClosedPoolValue};
 ghost use Rattle.society_core.specs.Orders.{IsOrder};
-ghost use Rattle.book_audit.specs.Examining.{Examines};
+ghost use Rattle.society_book.specs.Steps.{Examines};
 ghost use Rattle.book_audit.specs.OwnRows.{LacksReached};
 ghost use Rattle.book_audit.specs.Standing.{FindsOrders, HoldsNoLines, KnowsReach, OrdersFall, OrdersStand, TellsOrder};
 ghost use Rattle.society_rows.specs.Between.{Within};
 
-use crate::AuditFault;
 use crate::pool_orders::{ClosedPool, closed_pools};
 use crate::pool_tables::pool_rows;
 use crate::reached::Reached;
 use crate::returns::{are_paid_once, are_there};
 use society_core::PoolOrder;
+use society_rows::RowFault;
 use sqlite::{Alter, Transaction};
 use std::alloc::Global;
 
@@ -30,7 +30,7 @@ fn can_stand<S: Alter>(
     tx: &mut Transaction<'_, S>,
     reached: &mut Reached,
     order: &PoolOrder,
-) -> Result<bool, AuditFault>
+) -> Result<bool, RowFault>
     ensures examined { Within S.Store tx.old tx.new (Examines HoldsNoLines) result
         (λ db told. KnowsReach db reached.old → KnowsReach db reached.new × TellsOrder order.now db told) }
     ensures kept { IfOk result (λ _. IsOrder order.now) }
@@ -46,25 +46,25 @@ fn orders_stand<S: Alter>(
     alloc: Global,
     tx: &mut Transaction<'_, S>,
     closed: &[ClosedPool],
-) -> Result<(), AuditFault>
+) -> Result<(), RowFault>
     ensures examined { Within S.Store tx.old tx.new (Examines (OrdersFall closed.now)) result (λ db _. OrdersStand closed.now db) }
     ensures kept { IfOk result (λ _. AllByRecursion (λ (c : ClosedPoolValue). IsOrder c.order) closed.now) }
 {
     let mut reached = Reached::new(alloc);
     for one in closed {
         if !can_stand(tx, &mut reached, &one.order)? {
-            return Err(AuditFault::Damaged);
+            return Err(RowFault::Damaged);
         }
     }
     Ok(())
 }
 
 /// The pools that are closed, each with its order, in the order of their rows; `Damaged` where the rows are not those of a book's pools,
-/// and `Memory` or `Store` where memory or the database failed. Memory is that of the orders.
+/// and `Memory` or `Refused` where memory or the database failed. Memory is that of the orders.
 pub fn orders_in<S: Alter>(
     alloc: Global,
     tx: &mut Transaction<'_, S>,
-) -> Result<Vec<ClosedPool>, AuditFault>
+) -> Result<Vec<ClosedPool>, RowFault>
     ensures examined { Within S.Store tx.old tx.new (Examines LacksReached) result (λ db closed. FindsOrders db closed.items) }
 {
     let rows = pool_rows(tx)?;

@@ -1,15 +1,15 @@
 //! The rows of ends of segments, and whether they are above the transmissions.
 ghost use Rattle.std.specs.Prelude.{◌≡◌, Some, None, IfOk, IfErr, map, true, if◌then◌else◌};
 ghost use Rattle.std.specs.List.{AllByRecursion, list_all};
-ghost use Rattle.book_audit.specs.Examining.{Examines, Judges};
+ghost use Rattle.society_book.specs.Errors.{Blames};
+ghost use Rattle.society_book.specs.Steps.{Examines};
 ghost use Rattle.society_rows.specs.Between.{Within};
 ghost use Rattle.book_audit.specs.Entries.{is_right_stated};
 ghost use Rattle.book_audit.specs.Judging.{AreOnce, AreRightLasts, AreStated, HasLasts, is_under, last_stated};
 
-use crate::AuditFault;
 use crate::reading::list_of;
 use society_core::{SegmentKey, TransmissionKey};
-use society_rows::{SegmentEndRow, TableName};
+use society_rows::{RowFault, SegmentEndRow, TableName};
 use sqlite::{Alter, Row, Transaction};
 use std::alloc::Global;
 use std::collections::BTreeMap;
@@ -33,15 +33,15 @@ fn last_in(row: &Row) -> Option<(SegmentKey, u32)>
 }
 
 // The segments and the last numbers of rows of ends; `Damaged` where one may not stand in a book.
-fn lasts_of(alloc: Global, rows: &[Row]) -> Result<Vec<(SegmentKey, u32)>, AuditFault>
+fn lasts_of(alloc: Global, rows: &[Row]) -> Result<Vec<(SegmentKey, u32)>, RowFault>
     ensures right { IfOk result (λ _. AllByRecursion (λ row. is_right_stated row ≡ true) rows.now) }
     ensures these { IfOk result (λ lasts. lasts.items ≡ map last_stated rows.now) }
-    ensures judged { IfErr result (Judges (AllByRecursion (λ row. is_right_stated row ≡ true) rows.now → ⊥)) }
+    ensures judged { IfErr result (Blames (AllByRecursion (λ row. is_right_stated row ≡ true) rows.now → ⊥)) }
 {
     let mut lasts = Vec::with_capacity(alloc, rows.len())?;
     for row in rows {
         let Some(last) = last_in(row) else {
-            return Err(AuditFault::Damaged);
+            return Err(RowFault::Damaged);
         };
         lasts.push(last)?;
     }
@@ -52,14 +52,14 @@ fn lasts_of(alloc: Global, rows: &[Row]) -> Result<Vec<(SegmentKey, u32)>, Audit
 pub(crate) fn map_of_lasts(
     alloc: Global,
     lasts: &[(SegmentKey, u32)],
-) -> Result<BTreeMap<SegmentKey, u32>, AuditFault>
+) -> Result<BTreeMap<SegmentKey, u32>, RowFault>
     ensures these { IfOk result (HasLasts lasts.now) }
-    ensures judged { IfErr result (Judges (AreOnce lasts.now → ⊥)) }
+    ensures judged { IfErr result (Blames (AreOnce lasts.now → ⊥)) }
 {
     let mut ends = BTreeMap::new(alloc);
     for (key, last) in lasts {
         if ends.insert(*key, *last)?.is_some() {
-            return Err(AuditFault::Damaged);
+            return Err(RowFault::Damaged);
         }
     }
     Ok(ends)
@@ -90,7 +90,7 @@ pub(crate) fn are_under_ends(ends: &BTreeMap<SegmentKey, u32>, keys: &[Transmiss
 pub(crate) fn stated_in<S: Alter>(
     alloc: Global,
     tx: &mut Transaction<'_, S>,
-) -> Result<Vec<(SegmentKey, u32)>, AuditFault>
+) -> Result<Vec<(SegmentKey, u32)>, RowFault>
     ensures examined { Within S.Store tx.old tx.new (Examines (λ db. AreStated db → ⊥)) result (λ db lasts. AreRightLasts db lasts.items) }
 {
     let rows = list_of(tx, TableName::SegmentEnds)?;

@@ -2,7 +2,8 @@
 ghost use Rattle.std.specs.Prelude.{◌≡◌, ◌↔◌, IfOk, IsTrue, true};
 ghost use Rattle.std.specs.BTreeSet.{IsFromIterResult};
 ghost use Rattle.std.specs.List.{AllByRecursion};
-ghost use Rattle.book_audit.specs.Examining.{Examines, IsNot};
+ghost use Rattle.book_audit.specs.Examining.{IsNot};
+ghost use Rattle.society_book.specs.Steps.{Examines};
 ghost use Rattle.society_core.specs.Keys.{bytes_cmp};
 ghost use Rattle.society_rows.specs.Between.{Within, within};
 ghost use Rattle.society_rows.specs.FirstColumns.{derived_table};
@@ -10,9 +11,8 @@ ghost use Rattle.book_audit.specs.Auditing.{AreLinesOf, is_of_one};
 ghost use Rattle.book_audit.specs.LineSteps.{AreAllOfThese, AreOfThese, DeniesLines};
 ghost use Rattle.share_rules.specs.declared.office.Office.{Office};
 
-use crate::AuditFault;
 use crate::reading::ask;
-use society_rows::{DerivedTable, Question};
+use society_rows::{DerivedTable, Question, RowFault};
 use sqlite::{Alter, Row, Transaction};
 use sqlite_value::value::ValueRef;
 use std::alloc::{AllocError, Global};
@@ -54,14 +54,14 @@ fn table_agrees<S: Alter>(
     tx: &mut Transaction<'_, S>,
     senders: &BTreeSet<SenderKey>,
     table: DerivedTable,
-) -> Result<(), AuditFault>
+) -> Result<(), RowFault>
     ensures examined { Within S.Store tx.old tx.new (Examines (IsNot (AreOfThese senders.now (derived_table table)))) result (λ db _. AreOfThese senders.now (derived_table table) db) }
 {
     let rows = ask(tx, Question::FirstColumns(table))?;
     if are_of_these(senders, rows.as_slice()) {
         Ok(())
     } else {
-        Err(AuditFault::Damaged)
+        Err(RowFault::Damaged)
     }
 }
 
@@ -69,7 +69,7 @@ fn table_agrees<S: Alter>(
 fn tables_agree<S: Alter>(
     tx: &mut Transaction<'_, S>,
     senders: &BTreeSet<SenderKey>,
-) -> Result<(), AuditFault>
+) -> Result<(), RowFault>
     ensures examined { Within S.Store tx.old tx.new (Examines (IsNot (AreAllOfThese senders.now))) result (λ db _. AreAllOfThese senders.now db) }
 {
     table_agrees(tx, senders, DerivedTable::Fronts)?;
@@ -78,13 +78,13 @@ fn tables_agree<S: Alter>(
     table_agrees(tx, senders, DerivedTable::Recordings)
 }
 
-/// That each row of what is derived of senders' lines is of one of these senders; else `Damaged`, and `Memory` or `Store` where memory or
+/// That each row of what is derived of senders' lines is of one of these senders; else `Damaged`, and `Memory` or `Refused` where memory or
 /// the database failed.
 pub(crate) fn has_no_stranger<S: Alter>(
     alloc: Global,
     tx: &mut Transaction<'_, S>,
     senders: &[SenderKey],
-) -> Result<(), AuditFault>
+) -> Result<(), RowFault>
     ensures same_reference { tx.new.conn.ghost_name ≡ tx.old.conn.ghost_name }
     ensures examined { (office : Office) → within S.Store tx.old tx.new (Examines (DeniesLines office senders.now)) result (λ db _. AreLinesOf senders.now db) }
 {

@@ -7,12 +7,11 @@ use Rattle.sqlite_trees.specs.Tree.{Trees}
 use Rattle.society_core.specs.Book.{Book, IsSound}
 use Rattle.society_rows.specs.Layout as layout
 use Rattle.society_rows.specs.Layout.{all_tables}
-use Rattle.society_rows.specs.Stored.{HasLayout}
 use Rattle.society_book.specs.BookRows.{AreOfBook}
 use Rattle.society_book.specs.Kept.{HoldsOwnBook}
 use Rattle.book_audit.specs.Audited.{IsRegistered}
-use Rattle.book_audit.specs.Examining.{Judged}
-use Rattle.book_audit.specs.declared.audit_fault.AuditFault.{AuditFault}
+use Rattle.society_book.specs.Steps.{Judged}
+use Rattle.society_rows.specs.declared.fault.RowFault.{RowFault}
 
 -- every table but those of what is derived is as it was
 pub record KeepsOwn (old new : Trees) : Type 0 where
@@ -20,9 +19,9 @@ pub record KeepsOwn (old new : Trees) : Type 0 where
   pub later : AllByRecursion (λ t. new t.tree ≡ old t.tree) (drop 12 all_tables)
 
 -- statements that write what is derived of a book: the tables of the book itself are as they were, and this is said of the tables before and after
-abbrev pub Derives : {X : Type 0} → (Trees → Type 0) → State → State → Result X AuditFault → (Trees → Trees → X → Type 0) → Type 0
+abbrev pub Derives : {X : Type 0} → (Trees → Type 0) → State → State → Result X RowFault → (Trees → Trees → X → Type 0) → Type 0
 Derives Wrong old new result Says =
-    Judged Wrong old new result (λ before after x. HasLayout after × KeepsOwn before.trees after.trees × Says before.trees after.trees x)
+    Judged Wrong old new result (λ before after x. KeepsOwn before.trees after.trees × Says before.trees after.trees x)
 
 -- nothing is derived of senders' lines
 abbrev pub HasNoLines : Trees → Type 0

@@ -1,6 +1,6 @@
 //! What pools pay by the tables, worked out and written as the lines of their credits.
 ghost use Rattle.std.specs.Prelude.{◌≡◌, map};
-ghost use Rattle.book_audit.specs.Examining.{Never};
+ghost use Rattle.society_book.specs.Steps.{Never};
 ghost use Rattle.book_derivation.specs.Deriving.{Derives};
 ghost use Rattle.book_audit.specs.Paying.{CannotPayAll};
 ghost use Rattle.book_derivation.specs.Money.{AddsCredits, AddsCreditLines, CannotPayListed, WritesCredits, WritesListed, WritesPool};
@@ -11,21 +11,18 @@ ghost use Rattle.society_rows.specs.Between.{Within};
 ghost use Rattle.society_rows.specs.Rows.{credit_values};
 
 use crate::writing::wrote;
-use book_audit::{AuditFault, ClosedPool, Totals, paid_by, worked_out, works_of};
+use book_audit::{ClosedPool, Totals, paid_by, worked_out, works_of};
 use pool_split::{Credit, Portion};
 use share_rules::Office;
 use society_closings::{PoolWorks, line_rows, place_after, texts_of};
 use society_core::PoolOrder;
-use society_rows::{CreditRow, add_all};
+use society_rows::{CreditRow, RowFault, add_all};
 use sqlite::{Alter, Transaction};
 use std::alloc::Global;
 use work_ids::PoolNumber;
 
 // Adds lines of credits.
-fn add_lines<S: Alter>(
-    tx: &mut Transaction<'_, S>,
-    lines: &[CreditRow<'_>],
-) -> Result<(), AuditFault>
+fn add_lines<S: Alter>(tx: &mut Transaction<'_, S>, lines: &[CreditRow<'_>]) -> Result<(), RowFault>
     ensures derives { Within S.Store tx.old tx.new (Derives Never) result (λ before after _. AddsCreditLines (map credit_values lines.now) before after) }
 {
     wrote(add_all(tx, lines))
@@ -38,7 +35,7 @@ fn write_from<S: Alter>(
     pool: u32,
     first: usize,
     credits: &[Credit],
-) -> Result<(), AuditFault>
+) -> Result<(), RowFault>
     ensures derives { Within S.Store tx.old tx.new (Derives Never) result (λ before after _. AddsCreditLines (lines_from pool first credits.now) before after) }
 {
     let texts = worked_out(texts_of(alloc, credits))?;
@@ -52,7 +49,7 @@ fn write_lines<S: Alter>(
     tx: &mut Transaction<'_, S>,
     pool: u32,
     portions: &[Portion],
-) -> Result<(), AuditFault>
+) -> Result<(), RowFault>
     ensures derives { Within S.Store tx.old tx.new (Derives Never) result (λ before after _. AddsCredits pool (credits_together portions.now) before after) }
 {
     let mut line: usize = 0;
@@ -73,7 +70,7 @@ fn write_pool<S: Alter>(
     pool: PoolNumber,
     order: &PoolOrder,
     works: &PoolWorks,
-) -> Result<Vec<Portion>, AuditFault>
+) -> Result<Vec<Portion>, RowFault>
     ensures derives { Within S.Store tx.old tx.new (Derives (CannotPayAmong office.now order.now works.now)) result (λ before after portions. WritesPool office.now pool order.now works.now before after (credits_together portions.items)) }
 {
     let portions = paid_by(alloc, tx, office, order, works)?;
@@ -88,7 +85,7 @@ fn write_each<S: Alter>(
     office: &Office,
     closed: &[ClosedPool],
     works: &PoolWorks,
-) -> Result<Totals, AuditFault>
+) -> Result<Totals, RowFault>
     ensures derives { Within S.Store tx.old tx.new (Derives (CannotPayListed office.now closed.now works.now)) result (WritesListed office.now closed.now works.now) }
 {
     let mut totals = Totals::new(alloc);
@@ -100,14 +97,14 @@ fn write_each<S: Alter>(
 }
 
 /// What accounts come to by closed pools, the lines of whose credits are written; `Damaged` where no book whose works the tables have can
-/// pay them, and `Memory` or `Store` where memory or the database failed. Memory is that of the accounts, of the works that the pools look
+/// pay them, and `Memory` or `Refused` where memory or the database failed. Memory is that of the accounts, of the works that the pools look
 /// for and of one portion's credits.
 pub(crate) fn write_credits<S: Alter>(
     alloc: Global,
     tx: &mut Transaction<'_, S>,
     office: &Office,
     closed: &[ClosedPool],
-) -> Result<Totals, AuditFault>
+) -> Result<Totals, RowFault>
     ensures derives { Within S.Store tx.old tx.new (Derives (CannotPayAll office.now closed.now)) result (WritesCredits office.now closed.now) }
 {
     let works = works_of(alloc, tx, office, closed)?;

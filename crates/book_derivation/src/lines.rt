@@ -1,6 +1,6 @@
 //! What is derived of senders' lines, worked out of what they sent and written.
 ghost use Rattle.std.specs.Prelude.{◌≡◌};
-ghost use Rattle.book_audit.specs.Examining.{Never};
+ghost use Rattle.society_book.specs.Steps.{Never};
 ghost use Rattle.book_derivation.specs.Deriving.{Derives};
 ghost use Rattle.book_derivation.specs.Lines.{PutsRows, WritesLine, WritesLines};
 ghost use Rattle.society_arrivals.specs.Arriving.{PutsOutcomes};
@@ -9,10 +9,10 @@ ghost use Rattle.society_rows.specs.Between.{Within};
 ghost use Rattle.society_rows.specs.Rows.{front_values};
 
 use crate::writing::wrote;
-use book_audit::{AuditFault, run_of, settled_line, worked_out};
+use book_audit::{run_of, settled_line, worked_out};
 use share_rules::Office;
 use society_arrivals::{Outcome, recordings_by_key, verdict_rows, versions_by_key};
-use society_rows::{FrontRow, RecordingRow, VerdictRow, VersionRow, add_all, put_front};
+use society_rows::{FrontRow, RecordingRow, RowFault, VerdictRow, VersionRow, add_all, put_front};
 use sqlite::{Alter, Transaction};
 use std::alloc::Global;
 use work_ids::SenderKey;
@@ -24,7 +24,7 @@ fn write_rows<S: Alter>(
     verdicts: &[VerdictRow<'_>],
     versions: &[VersionRow<'_>],
     recordings: &[RecordingRow<'_>],
-) -> Result<(), AuditFault>
+) -> Result<(), RowFault>
     ensures derives { Within S.Store tx.old tx.new (Derives Never) result (λ before after _. PutsRows front.now verdicts.now versions.now recordings.now before after) }
 {
     wrote(put_front(tx, front))?;
@@ -39,7 +39,7 @@ fn write_outcomes<S: Alter>(
     tx: &mut Transaction<'_, S>,
     front: &FrontRow<'_>,
     outcomes: &[Outcome<'_>],
-) -> Result<(), AuditFault>
+) -> Result<(), RowFault>
     ensures derives { Within S.Store tx.old tx.new (Derives Never) result (λ before after _. PutsOutcomes (front_values front.now) front.now.sender.now outcomes.now before after) }
 {
     let verdicts = worked_out(verdict_rows(alloc, front.sender, outcomes))?;
@@ -60,7 +60,7 @@ fn write_line<S: Alter>(
     tx: &mut Transaction<'_, S>,
     office: &Office,
     sender: &SenderKey,
-) -> Result<(), AuditFault>
+) -> Result<(), RowFault>
     ensures derives { Within S.Store tx.old tx.new (Derives KeepsUnsound) result (λ before after _. WritesLine office.now sender.now before after) }
 {
     let run = run_of(alloc, tx, office, sender)?;
@@ -69,14 +69,14 @@ fn write_line<S: Alter>(
 }
 
 /// Writes what is derived of the lines of these senders to tables that have nothing of any line; `Damaged` where what was sent is that of no
-/// book, and `Memory` or `Store` where memory or the database failed. Of the bodies one at a time is kept, and of what is worked out a
+/// book, and `Memory` or `Refused` where memory or the database failed. Of the bodies one at a time is kept, and of what is worked out a
 /// sender's.
 pub(crate) fn write_lines<S: Alter>(
     alloc: Global,
     tx: &mut Transaction<'_, S>,
     office: &Office,
     senders: &[SenderKey],
-) -> Result<(), AuditFault>
+) -> Result<(), RowFault>
     ensures derives { Within S.Store tx.old tx.new (Derives KeepsUnsound) result (λ before after _. WritesLines office.now senders.now before after) }
 {
     for sender in senders {

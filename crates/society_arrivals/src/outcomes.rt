@@ -54,7 +54,7 @@ fn work_of(judged: &Judged) -> &[u8]
     }
 }
 
-// Appends the outcome of the transaction at a place; `Unread` where the transmission has none there.
+// Appends the outcome of the transaction at a place; `Damaged` where the transmission has none there.
 fn append_outcome<'a>(
     noted: &'a Noted,
     at: usize,
@@ -64,10 +64,10 @@ fn append_outcome<'a>(
     ensures { OnOk result (AddsAt noted.now at verdict (map settled list.old.items) (map settled list.new.items)) }
 {
     let Some(judged) = noted.judgements().get(at) else {
-        return Err(RowFault::Unread);
+        return Err(RowFault::Damaged);
     };
     let Some(isrcs) = noted.isrcs(at) else {
-        return Err(RowFault::Unread);
+        return Err(RowFault::Damaged);
     };
     let Ok(place) = u32::try_from(at) else {
         return Err(RowFault::Overflow);
@@ -82,7 +82,7 @@ fn append_outcome<'a>(
     Ok(list.push(outcome)?)
 }
 
-// Appends the outcomes of a transmission's transactions; `Unread` where one of them lacks a part.
+// Appends the outcomes of a transmission's transactions; `Damaged` where one of them lacks a part.
 fn append_outcomes<'a>(
     noted: &'a Noted,
     verdicts: &[Verdict],

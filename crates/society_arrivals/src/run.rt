@@ -250,10 +250,10 @@ impl RowFold for Run {
     fn take(&mut self, row: &Row) -> Result<(), RowFault> {
         let row = TransmissionRow::from_row(row)?;
         let Some(number) = TransmissionNumber::from_u32(row.number) else {
-            return Err(RowFault::Unread);
+            return Err(RowFault::Damaged);
         };
         let Ok(sender) = SenderKey::from_bytes(row.sender) else {
-            return Err(RowFault::Unread);
+            return Err(RowFault::Damaged);
         };
         let transmission = read_body(self.alloc, row.body, &sender)?;
         let noted = Noted::of(self.alloc, number, &transmission, &self.office)?;

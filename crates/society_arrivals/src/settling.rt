@@ -28,7 +28,7 @@ pub(crate) struct Reached {
     pub(crate) works: u64,
 }
 
-// How far a sender came by the rows of its front; `Unread` where they are more than one.
+// How far a sender came by the rows of its front; `Damaged` where they are more than one.
 fn shown_reached(rows: &[Row]) -> Result<Reached, RowFault>
     ensures { (n w : ℕ) → ShowReached n w rows.now → IfOk result (λ reached. (reached.front ≡ n) × (reached.works ≡ w)) }
 {
@@ -41,10 +41,10 @@ fn shown_reached(rows: &[Row]) -> Result<Reached, RowFault>
                     front: row.front,
                     works,
                 }),
-                Err(_) => Err(RowFault::Unread),
+                Err(_) => Err(RowFault::Damaged),
             }
         }
-        _ => Err(RowFault::Unread),
+        _ => Err(RowFault::Damaged),
     }
 }
 

@@ -30,7 +30,7 @@ fn run_behind<S: Alter>(
     let mut ends = ends_in(tx, sender.as_bytes())?;
     ends.push(end)?;
     if front > GREATEST_RANK {
-        return Err(RowFault::Unread);
+        return Err(RowFault::Damaged);
     }
     let mut run = Run::new(alloc, office, front);
     go_over(tx, sender, &ends, front, &mut run)?;

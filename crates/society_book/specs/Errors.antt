@@ -6,6 +6,6 @@ use Rattle.society_rows.specs.declared.fault.RowFault.TheVariants as fault
 abbrev pub Blames : Type 0 → RowFault → Type 0
 Blames Wrong fault.Memory = Unit {0}
 Blames Wrong fault.Schema = Wrong
-Blames Wrong fault.Unread = Wrong
+Blames Wrong fault.Damaged = Wrong
 Blames Wrong fault.Overflow = Unit {0}
 Blames Wrong (fault.Refused error) = ⊥

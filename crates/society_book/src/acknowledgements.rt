@@ -17,7 +17,7 @@ use std::alloc::Global;
 use work_ids::{SenderKey, TransmissionNumber};
 use works_core::Verdict;
 
-// The acknowledgement of the transmission that rows show, with these verdicts; `Unread` where they are not one row, or its
+// The acknowledgement of the transmission that rows show, with these verdicts; `Damaged` where they are not one row, or its
 // body is no transmission of the sender.
 fn acknowledgement_in(
     alloc: Global,

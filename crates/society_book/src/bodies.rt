@@ -26,7 +26,7 @@ pub(crate) fn compare_body(kept: &[u8], body: &[u8]) -> Known
     }
 }
 
-/// The transmission that a body is; `Unread` where it is none of the sender, and only there.
+/// The transmission that a body is; `Damaged` where it is none of the sender, and only there.
 pub fn read_body<'a>(
     alloc: Global,
     body: &'a [u8],
@@ -38,11 +38,11 @@ pub fn read_body<'a>(
     match read_transmission(alloc, body, sender) {
         Ok(transmission) => Ok(transmission),
         Err(ReadFault::Memory) => Err(RowFault::Memory),
-        Err(ReadFault::File(_)) => Err(RowFault::Unread),
+        Err(ReadFault::File(_)) => Err(RowFault::Damaged),
     }
 }
 
-/// The transmission that rows show; `Unread` where they are not one row, or its body is none of the sender, and only there.
+/// The transmission that rows show; `Damaged` where they are not one row, or its body is none of the sender, and only there.
 pub fn transmission_of<'a>(
     alloc: Global,
     rows: &'a [Row],
@@ -52,7 +52,7 @@ pub fn transmission_of<'a>(
     ensures blames { IfErr result (Blames (ShowTransmission sender.now rows.now → ⊥)) }
 {
     let [row] = rows else {
-        return Err(RowFault::Unread);
+        return Err(RowFault::Damaged);
     };
     let row = TransmissionRow::from_row(row)?;
     read_body(alloc, row.body, sender)

@@ -19,7 +19,7 @@ use sqlite::{Alter, Row, Transaction};
 use std::alloc::Global;
 use work_ids::SegmentEnd;
 
-// The end that a row says; `Unread` where it says none.
+// The end that a row says; `Damaged` where it says none.
 fn end_in(row: &Row) -> Result<SegmentEnd, RowFault>
     ensures reads { IfOk result (λ end. (place_stated end ≡ segment_place_at 1 row.now) × (end_stated end ≡ end_of row.now)) }
     ensures blames { IfErr result (Blames (IsRightStated row.now → ⊥)) }
@@ -27,7 +27,7 @@ fn end_in(row: &Row) -> Result<SegmentEnd, RowFault>
     let row = SegmentEndRow::from_row(row)?;
     match SegmentEnd::new(row.segment, u64::from(row.last), u64::from(row.next)) {
         Ok(end) => Ok(end),
-        Err(_) => Err(RowFault::Unread),
+        Err(_) => Err(RowFault::Damaged),
     }
 }
 

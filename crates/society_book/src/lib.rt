@@ -27,6 +27,6 @@ pub use ends_read::{ends_in, ends_of};
 pub use orders::known_pool_of;
 pub use returns::{known_return_of, payment_of, write_return};
 pub use sender_ends::SenderEnds;
-pub use senders::{front_of, known_of, place_of};
+pub use senders::{front_of, known_of, place_of, shown_front};
 pub use showings::show;
 pub use works::{last_version, version_of};

@@ -11,13 +11,13 @@ use society_rows::{Idle, Question, RowFault, TransmissionKeyRow, ask};
 use sqlite::{Alter, Row};
 use work_ids::TransmissionNumber;
 
-// The number that the key of a transmission has; `Unread` where it is no transmission's number.
+// The number that the key of a transmission has; `Damaged` where it is no transmission's number.
 fn number_of(row: &Row) -> Result<TransmissionNumber, RowFault>
     ensures { IfOk result (λ number. number ≡ whole_number_at 1 row.now) }
 {
     match TransmissionNumber::from_u32(TransmissionKeyRow::from_row(row)?.number) {
         Some(number) => Ok(number),
-        None => Err(RowFault::Unread),
+        None => Err(RowFault::Damaged),
     }
 }
 

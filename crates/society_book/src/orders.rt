@@ -17,7 +17,7 @@ use sqlite::{Alter, Row};
 use std::alloc::Global;
 use work_ids::{Reporter, SenderKey};
 
-// The amount that the rows of a pool show, none where it is not closed; `Unread` where they are more than one, or below 0.
+// The amount that the rows of a pool show, none where it is not closed; `Damaged` where they are more than one, or below 0.
 fn shown_amount(rows: &[Row]) -> Result<Option<u64>, RowFault>
     ensures { (kept : Option Order) → ShowPool kept rows.now → IfOk result (λ amount. amount ≡ option_map (λ order. order.amount) kept) }
 {
@@ -25,9 +25,9 @@ fn shown_amount(rows: &[Row]) -> Result<Option<u64>, RowFault>
         [] => Ok(None),
         [row] => match u64::try_from(PoolRow::from_row(row)?.amount) {
             Ok(amount) => Ok(Some(amount)),
-            Err(_) => Err(RowFault::Unread),
+            Err(_) => Err(RowFault::Damaged),
         },
-        _ => Err(RowFault::Unread),
+        _ => Err(RowFault::Damaged),
     }
 }
 
@@ -57,14 +57,14 @@ fn kind_of<S: Alter>(conn: &mut Idle<S>, pool: u32) -> Result<Kind, RowFault>
     Ok(marked_kind(marks.as_slice()))
 }
 
-// The sender and the number of a row of a cut; `Unread` where it has no sender.
+// The sender and the number of a row of a cut; `Damaged` where it has no sender.
 fn cut_in(row: &Row) -> Result<(SenderKey, u64), RowFault>
     ensures { IfOk result (λ key. transmission_key key.0 key.1 ≡ cut_key_of row.now) }
 {
     let row = PoolCutRow::from_row(row)?;
     match SenderKey::from_bytes(row.sender) {
         Ok(sender) => Ok((sender, u64::from(row.number))),
-        Err(_) => Err(RowFault::Unread),
+        Err(_) => Err(RowFault::Damaged),
     }
 }
 
@@ -87,14 +87,14 @@ fn cut_of<S: Alter>(conn: &mut Idle<S>, pool: u32) -> Result<Vec<(SenderKey, u64
     cuts_in(*rows.allocator(), rows.as_slice())
 }
 
-// The reporter and the number of a row of a return that is paid; `Unread` where it has no reporter.
+// The reporter and the number of a row of a return that is paid; `Damaged` where it has no reporter.
 fn return_in(row: &Row) -> Result<(Reporter, u64), RowFault>
     ensures { IfOk result (λ key. return_key key.0 key.1 ≡ return_key_of row.now) }
 {
     let row = PoolReturnRow::from_row(row)?;
     match Reporter::from_bytes(row.reporter) {
         Ok(reporter) => Ok((reporter, u64::from(row.number))),
-        Err(_) => Err(RowFault::Unread),
+        Err(_) => Err(RowFault::Damaged),
     }
 }
 
@@ -117,7 +117,7 @@ fn returns_of<S: Alter>(conn: &mut Idle<S>, pool: u32) -> Result<Vec<(Reporter, 
     returns_in(*rows.allocator(), rows.as_slice())
 }
 
-// Whether an amount, a kind, a cut and returns are an order's; `Unread` where they are no order's at all.
+// Whether an amount, a kind, a cut and returns are an order's; `Damaged` where they are no order's at all.
 fn known_order(
     alloc: Global,
     amount: u64,
@@ -137,7 +137,7 @@ fn known_order(
             }
         }
         Err(OrderError::Memory) => Err(RowFault::Memory),
-        Err(OrderError::Order(_)) => Err(RowFault::Unread),
+        Err(OrderError::Order(_)) => Err(RowFault::Damaged),
     }
 }
 

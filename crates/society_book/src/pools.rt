@@ -18,14 +18,14 @@ use sqlite::{Alter, Row};
 use std::alloc::Global;
 use work_ids::{Account, Isrc};
 
-// The units that the rows of a balance show; `Unread` where they are more than one, or below 0.
+// The units that the rows of a balance show; `Damaged` where they are more than one, or below 0.
 fn shown_units(rows: &[Row]) -> Result<u64, RowFault>
     ensures { (n : ℕ) → ShowUnits n rows.now → IfOk result (λ units. units ≡ n) }
 {
     match rows {
         [] => Ok(0),
-        [row] => u64::try_from(BalanceRow::from_row(row)?.units).map_err(|_| RowFault::Unread),
-        _ => Err(RowFault::Unread),
+        [row] => u64::try_from(BalanceRow::from_row(row)?.units).map_err(|_| RowFault::Damaged),
+        _ => Err(RowFault::Damaged),
     }
 }
 
@@ -61,7 +61,7 @@ pub(crate) fn balance_of<S: Alter>(
     units_under(conn, text.as_slice())
 }
 
-// The ISRC of a credit by its text, none where that is a dash; `Unread` where it is no ISRC.
+// The ISRC of a credit by its text, none where that is a dash; `Damaged` where it is no ISRC.
 fn isrc_of(text: &[u8]) -> Result<Option<Isrc>, RowFault>
     ensures { IfOk result (λ isrc. isrc ≡ credit_isrc text.now) }
 {
@@ -70,11 +70,11 @@ fn isrc_of(text: &[u8]) -> Result<Option<Isrc>, RowFault>
     }
     match Isrc::from_field(text) {
         Ok(Some(isrc)) => Ok(Some(isrc)),
-        _ => Err(RowFault::Unread),
+        _ => Err(RowFault::Damaged),
     }
 }
 
-// The credit that a row is; `Unread` where it is none.
+// The credit that a row is; `Damaged` where it is none.
 fn credit_of(row: &Row) -> Result<Credit, RowFault>
     ensures { IfOk result (λ credit. Some credit ≡ credit_in row.now) }
 {
@@ -82,7 +82,7 @@ fn credit_of(row: &Row) -> Result<Credit, RowFault>
     let isrc = isrc_of(row.isrc)?;
     let (Ok(account), Ok(units)) = (Account::from_bytes(row.account), u64::try_from(row.units))
     else {
-        return Err(RowFault::Unread);
+        return Err(RowFault::Damaged);
     };
     Ok(Credit {
         isrc,
@@ -123,14 +123,14 @@ fn credits_in(alloc: Global, rows: &[Row], is_closed: bool) -> Result<Option<Vec
     Ok(Some(list))
 }
 
-// Whether the rows of a pool show that it is closed; `Unread` where they are more than one.
+// Whether the rows of a pool show that it is closed; `Damaged` where they are more than one.
 fn shown_closed(rows: &[Row]) -> Result<bool, RowFault>
     ensures { (kept : Option Order) → ShowPool kept rows.now → IfOk result (λ closed. closed ≡ is_some kept) }
 {
     match rows {
         [] => Ok(false),
         [_] => Ok(true),
-        _ => Err(RowFault::Unread),
+        _ => Err(RowFault::Damaged),
     }
 }
 

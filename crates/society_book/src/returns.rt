@@ -15,14 +15,14 @@ use society_rows::{Idle, NewRows, PoolReturnRow, Question, ReturnRow, RowFault, 
 use sqlite::{Alter, Row};
 use work_ids::PoolNumber;
 
-// Whether the rows of a return show these bytes, others, or none; `Unread` where they are more than one.
+// Whether the rows of a return show these bytes, others, or none; `Damaged` where they are more than one.
 fn known_return_in(rows: &[Row], body: &[u8]) -> Result<Known, RowFault>
     ensures { (kept : Option (List ℕ)) → ShowBody kept rows.now → IfOk result (λ known. known ≡ known_by body.now kept) }
 {
     match rows {
         [] => Ok(Known::Absent),
         [row] => Ok(compare_body(ReturnRow::from_row(row)?.body, body)),
-        _ => Err(RowFault::Unread),
+        _ => Err(RowFault::Damaged),
     }
 }
 
@@ -41,14 +41,14 @@ pub fn known_return_of<S: Alter>(
     known_return_in(rows.as_slice(), body)
 }
 
-// Whether the keys of returns show one; `Unread` where they are more than one.
+// Whether the keys of returns show one; `Damaged` where they are more than one.
 fn shown_there(rows: &[Row]) -> Result<bool, RowFault>
     ensures { (kept : Option (List ℕ)) → ShowKey kept rows.now → IfOk result (λ there. there ≡ is_some kept) }
 {
     match rows {
         [] => Ok(false),
         [_] => Ok(true),
-        _ => Err(RowFault::Unread),
+        _ => Err(RowFault::Damaged),
     }
 }
 
@@ -63,7 +63,7 @@ fn is_there<S: Alter>(conn: &mut Idle<S>, key: &ReturnKey) -> Result<bool, RowFa
     shown_there(rows.as_slice())
 }
 
-// The pool that the rows of a return that is paid show; `Unread` where that is no pool's number.
+// The pool that the rows of a return that is paid show; `Damaged` where that is no pool's number.
 fn shown_payer(rows: &[Row]) -> Result<Option<PoolNumber>, RowFault>
     ensures { (payer : Option ℕ) → ShowPayer payer rows.now → IfOk result (λ pool. pool ≡ payer) }
 {
@@ -71,7 +71,7 @@ fn shown_payer(rows: &[Row]) -> Result<Option<PoolNumber>, RowFault>
         [] => Ok(None),
         [row, ..] => match PoolNumber::from_u32(PoolReturnRow::from_row(row)?.pool) {
             Some(pool) => Ok(Some(pool)),
-            None => Err(RowFault::Unread),
+            None => Err(RowFault::Damaged),
         },
     }
 }

@@ -1,5 +1,8 @@
 //! What is asked of a sender.
-ghost use Rattle.std.specs.Prelude.{◌≡◌, ◌≤◌, List, ℕ, None, Option, Some, map, IfOk, true};
+ghost use Rattle.std.specs.Prelude.{◌≡◌, ◌≤◌, ◌<◌, ◌^◌, List, ℕ, pos, None, Ok, Option, Some, map, IfErr, IfOk, true};
+ghost use Rattle.sqlite_value.specs.Order.{column};
+ghost use Rattle.sqlite_value.specs.declared.value.Value.TheVariants.{Int};
+ghost use Rattle.society_rows.specs.declared.fault.RowFault.TheVariants.{Damaged};
 ghost use Rattle.sender_segments.specs.Ways.{StatedEnds, numbers_up_to};
 ghost use Rattle.society_core.specs.Answers.{free_under, known_as, known_by, place_in_book, transmission_known};
 ghost use Rattle.society_core.specs.declared.store.KnownTransmission.TheVariants as transmissions;
@@ -13,20 +16,38 @@ ghost use Rattle.society_book.specs.Items.{items_of};
 use crate::bodies::compare_body;
 use crate::ends_read::ends_of;
 use society_core::{Known, KnownTransmission, NumberPlace};
-use society_rows::{FrontRow, Idle, Question, RowFault, TransmissionRow, VerdictRow, ask};
+use society_rows::{Idle, Question, RowFault, TransmissionRow, VerdictRow, ask};
 use sqlite::{Alter, Row};
+use sqlite_value::value::ValueRef;
 use std::alloc::Global;
 use work_ids::{Segment, TransmissionNumber};
 use works_core::Verdict;
 
-// The front that the rows of a sender's front show; `Unread` where they are more than one.
-fn shown_front(rows: &[Row]) -> Result<u32, RowFault>
-    ensures { (n : ℕ) → ShowFront n rows.now → IfOk result (λ front. front ≡ n) }
+// The front that a row says, none where it says no number of that size.
+fn front_said(row: &Row) -> Option<u32>
+    ensures { (n : ℕ) → n < 2 ^ 32 → column row.now 1 ≡ Int (pos n) → result ≡ Some n }
+{
+    let Ok(ValueRef::Int(front)) = row.get_ref(1) else {
+        return None;
+    };
+    match u32::try_from(front) {
+        Ok(front) => Some(front),
+        Err(_) => None,
+    }
+}
+
+/// The front that the rows of a sender's front show, as a rank; `Damaged` where they show none.
+pub fn shown_front(rows: &[Row]) -> Result<u32, RowFault>
+    ensures exact { (n : ℕ) → n < 2 ^ 32 → ShowFront n rows.now → result ≡ Ok n }
+    ensures err { IfErr result (λ e. e ≡ Damaged) }
 {
     match rows {
         [] => Ok(0),
-        [row] => Ok(FrontRow::from_row(row)?.front),
-        _ => Err(RowFault::Unread),
+        [row] => match front_said(row) {
+            Some(front) => Ok(front),
+            None => Err(RowFault::Damaged),
+        },
+        _ => Err(RowFault::Damaged),
     }
 }
 
@@ -38,14 +59,14 @@ pub fn front_of<S: Alter>(conn: &mut Idle<S>, sender: &[u8]) -> Result<u32, RowF
     shown_front(rows.as_slice())
 }
 
-// Whether the rows of a transmission show these bytes, others, or none; `Unread` where they are more than one.
+// Whether the rows of a transmission show these bytes, others, or none; `Damaged` where they are more than one.
 fn known_transmission_in(rows: &[Row], body: &[u8]) -> Result<Known, RowFault>
     ensures { (kept : Option (List ℕ)) → ShowBody kept rows.now → IfOk result (λ known. known ≡ known_by body.now kept) }
 {
     match rows {
         [] => Ok(Known::Absent),
         [row] => Ok(compare_body(TransmissionRow::from_row(row)?.body, body)),
-        _ => Err(RowFault::Unread),
+        _ => Err(RowFault::Damaged),
     }
 }
 
@@ -149,7 +170,7 @@ pub fn known_of<S: Alter>(
     }
 }
 
-// The verdict that a row is; `Unread` where it is none: an accepted one has an ordinal from 1.
+// The verdict that a row is; `Damaged` where it is none: an accepted one has an ordinal from 1.
 fn verdict_of(row: &Row) -> Result<Verdict, RowFault>
     ensures { IfOk result (λ verdict. Some verdict ≡ verdict_in row.now) }
 {
@@ -157,15 +178,15 @@ fn verdict_of(row: &Row) -> Result<Verdict, RowFault>
     if row.fault != 0 {
         return match u8::try_from(row.fault) {
             Ok(fault) => Ok(Verdict::Rejected(fault)),
-            Err(_) => Err(RowFault::Unread),
+            Err(_) => Err(RowFault::Damaged),
         };
     }
     let (Ok(ordinal), Ok(revision)) = (u64::try_from(row.ordinal), u64::try_from(row.revision))
     else {
-        return Err(RowFault::Unread);
+        return Err(RowFault::Damaged);
     };
     if ordinal == 0 {
-        return Err(RowFault::Unread);
+        return Err(RowFault::Damaged);
     }
     Ok(Verdict::Accepted { ordinal, revision })
 }

@@ -20,18 +20,18 @@ use std::alloc::Global;
 use work_ids::{SenderKey, TransmissionNumber, WorkNumber};
 use works_core::WorkVersion;
 
-/// The version that a row is; `Unread` where it is none, and only there.
+/// The version that a row is; `Damaged` where it is none, and only there.
 pub fn version_of(row: &Row) -> Result<WorkVersion, RowFault>
     ensures version { IfOk result (λ version. version ≡ version_shown row.now) }
     ensures blames { IfErr result (Blames (IsVersionRow row.now → ⊥)) }
 {
     let row = VersionRow::from_row(row)?;
     let Some(transmission) = TransmissionNumber::from_u32(row.number) else {
-        return Err(RowFault::Unread);
+        return Err(RowFault::Damaged);
     };
     let (Ok(ordinal), Ok(revision)) = (u64::try_from(row.ordinal), u64::try_from(row.revision))
     else {
-        return Err(RowFault::Unread);
+        return Err(RowFault::Damaged);
     };
     Ok(WorkVersion {
         transmission,
@@ -41,7 +41,7 @@ pub fn version_of(row: &Row) -> Result<WorkVersion, RowFault>
     })
 }
 
-/// The last version that the rows of a work show, none where there is no row; `Unread` where they are more than one.
+/// The last version that the rows of a work show, none where there is no row; `Damaged` where they are more than one.
 pub fn last_version(rows: &[Row]) -> Result<Option<WorkVersion>, RowFault>
     ensures { (v : Option Version) → ShowVersion v rows.now → IfOk result (λ version. version ≡ v) }
 {
@@ -51,7 +51,7 @@ pub fn last_version(rows: &[Row]) -> Result<Option<WorkVersion>, RowFault>
             let version = version_of(row)?;
             Ok(Some(version))
         }
-        _ => Err(RowFault::Unread),
+        _ => Err(RowFault::Damaged),
     }
 }
 
@@ -70,7 +70,7 @@ fn version_at_front<S: Alter>(
     last_version(rows.as_slice())
 }
 
-// What a version of a work shows, by the rows of its transmission; `Unread` where these are not one row, or its body is no
+// What a version of a work shows, by the rows of its transmission; `Damaged` where these are not one row, or its body is no
 // transmission of the sender.
 fn work_in(
     alloc: Global,

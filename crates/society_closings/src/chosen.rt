@@ -28,7 +28,7 @@ use std::collections::{BTreeMap, BTreeSet};
 use work_ids::{TransmissionNumber, WorkNumber};
 use works_core::WorkVersion;
 
-// The last of the versions that rows show whose transmission is up to a cut, none where all are above it; `Unread` where a
+// The last of the versions that rows show whose transmission is up to a cut, none where all are above it; `Damaged` where a
 // row shows none.
 fn last_up_to(rows: &[Row], cut: TransmissionNumber) -> Result<Option<WorkVersion>, RowFault>
     ensures version { IfOk result (λ version. version ≡ option_map version_shown (find (λ row. nat_le (whole_number_at 3 row) cut) (reverse rows.now))) }

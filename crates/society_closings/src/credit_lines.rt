@@ -66,7 +66,7 @@ fn append_line<'a>(
 }
 
 /// The rows of credits of a pool, each at its line from the first on, under the texts of their accounts; `Memory` where memory was refused,
-/// `Overflow` where a line or units have no room in a row, and `Unread` where there are fewer texts than credits.
+/// `Overflow` where a line or units have no room in a row, and `Damaged` where there are fewer texts than credits.
 pub fn line_rows<'a>(
     alloc: Global,
     pool: u32,
@@ -79,7 +79,7 @@ pub fn line_rows<'a>(
     let mut rows = Vec::with_capacity(alloc, credits.len())?;
     for (index, credit) in credits.iter().enumerate() {
         let Some(text) = texts.get(index) else {
-            return Err(RowFault::Unread);
+            return Err(RowFault::Damaged);
         };
         let line = place_after(first, index)?;
         append_line(pool, line, credit, text.as_slice(), &mut rows)?;

@@ -21,7 +21,7 @@ use sqlite::{Alter, Row};
 use std::alloc::Global;
 use work_ids::{SenderKey, TransmissionNumber};
 
-// Adds the candidates of the transmission that rows show; `Unread` where they are not one row, or its body is no transmission
+// Adds the candidates of the transmission that rows show; `Damaged` where they are not one row, or its body is no transmission
 // of the sender.
 fn add_shown(
     weighing: &Weighing<'_>,

@@ -26,7 +26,7 @@ use sqlite::{Alter, Row, Transaction};
 use std::alloc::Global;
 use work_ids::PoolNumber;
 
-// Adds the performances of a return to a tally of at most 9,990,000 performances, by the rows of the return; `Unread` where
+// Adds the performances of a return to a tally of at most 9,990,000 performances, by the rows of the return; `Damaged` where
 // these are not one row, or its body is no return.
 fn add_performances(alloc: Global, rows: &[Row], tally: &mut Tally) -> Result<(), RowFault>
     ensures counted { TalliesKept rows.now tally.old tally.new result }
@@ -34,17 +34,17 @@ fn add_performances(alloc: Global, rows: &[Row], tally: &mut Tally) -> Result<()
     ensures blames { IfErr result (Blames (ShowReturn rows.now → ⊥)) }
 {
     let [row] = rows else {
-        return Err(RowFault::Unread);
+        return Err(RowFault::Damaged);
     };
     let row = ReturnRow::from_row(row)?;
     match read_return(alloc, row.body) {
         Ok(performances) => Ok(tally.add_all(performances.rows.as_slice())?),
         Err(ReturnError::Memory) => Err(RowFault::Memory),
-        Err(ReturnError::Csv(_)) => Err(RowFault::Unread),
+        Err(ReturnError::Csv(_)) => Err(RowFault::Damaged),
     }
 }
 
-// Adds the performances of a return to a tally of at most 9,990,000 performances; `Unread` where there is no such return.
+// Adds the performances of a return to a tally of at most 9,990,000 performances; `Damaged` where there is no such return.
 fn add_return<S: Alter>(
     alloc: Global,
     tx: &mut Transaction<'_, S>,
@@ -77,7 +77,7 @@ pub(crate) fn tally_of<S: Alter>(
     Ok(tally)
 }
 
-// What an order pays by the tally of its returns and the candidates for their recordings; `Unread` where these can't be paid.
+// What an order pays by the tally of its returns and the candidates for their recordings; `Damaged` where these can't be paid.
 fn portions_by(
     alloc: Global,
     tally: &Tally,
@@ -90,7 +90,7 @@ fn portions_by(
     let points = tally.points_by_recording(alloc)?;
     let claims = claims(alloc, &points, candidates)?;
     if !are_payable(&claims) {
-        return Err(RowFault::Unread);
+        return Err(RowFault::Damaged);
     }
     Ok(portions(alloc, order.amount(), &claims)?)
 }

@@ -32,7 +32,7 @@ pub struct PoolWorks {
     mechanical: WeighedWorks,
 }
 
-// Adds the transmissions of the versions that rows show; `Unread` where a row shows none.
+// Adds the transmissions of the versions that rows show; `Damaged` where a row shows none.
 fn add_rows(
     sender: &SenderKey,
     rows: &[Row],

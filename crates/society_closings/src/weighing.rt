@@ -98,7 +98,7 @@ fn weigh_groups(
     Ok(versions)
 }
 
-/// The versions of the transmission that rows show, weighed for the recordings of a tally; `Unread` where they are not one row, or its body
+/// The versions of the transmission that rows show, weighed for the recordings of a tally; `Damaged` where they are not one row, or its body
 /// is no transmission of the sender.
 pub(crate) fn weigh_shown(
     weighing: &Weighing<'_>,

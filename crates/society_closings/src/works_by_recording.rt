@@ -103,7 +103,7 @@ impl WorksByRecording {
         }
     }
 
-    // Lists the work of a row under its recording; `Unread` where it has no sender or no work number.
+    // Lists the work of a row under its recording; `Damaged` where it has no sender or no work number.
     fn list_work(
         &mut self,
         alloc: Global,
@@ -115,16 +115,16 @@ impl WorksByRecording {
         ensures blames { IfErr result (Blames (NamesWork (recording_values row.now) → ⊥)) }
     {
         let Ok(sender) = SenderKey::from_bytes(row.sender) else {
-            return Err(RowFault::Unread);
+            return Err(RowFault::Damaged);
         };
         let Ok(work) = WorkNumber::from_bytes(row.work) else {
-            return Err(RowFault::Unread);
+            return Err(RowFault::Damaged);
         };
         self.list(alloc, isrc, sender, work)?;
         Ok(())
     }
 
-    // Lists the work of a row of a recording, where this is wanted; `Unread` where the row has no sender or no work number.
+    // Lists the work of a row of a recording, where this is wanted; `Damaged` where the row has no sender or no work number.
     fn list_row(
         &mut self,
         alloc: Global,
@@ -142,7 +142,7 @@ impl WorksByRecording {
         }
     }
 
-    // Lists the works of those rows of recordings that are wanted; `Unread` where one has no sender or no work number.
+    // Lists the works of those rows of recordings that are wanted; `Damaged` where one has no sender or no work number.
     fn list_rows(
         &mut self,
         alloc: Global,

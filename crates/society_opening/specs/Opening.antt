@@ -16,16 +16,18 @@ use Rattle.society_core.specs.Book.{empty_book}
 use Rattle.society_book.specs.BookRows.{book_of}
 use Rattle.society_book.specs.Kept.{HoldsOwnBook, Rests, office_row}
 use Rattle.society_opening.specs.Older.{HoldsOlder, HoldsOne, IsTakenOver, Takes, office_row_under}
-use Rattle.book_audit.specs.declared.audit_fault.AuditFault.{AuditFault}
-use Rattle.book_audit.specs.declared.audit_fault.AuditFault.TheVariants as audit
+use Rattle.society_rows.specs.declared.fault.RowFault.{RowFault}
+use Rattle.society_rows.specs.declared.fault.RowFault.TheVariants as row
 use Rattle.society_opening.specs.declared.open_fault.OpenFault.{OpenFault}
 use Rattle.society_opening.specs.declared.open_fault.OpenFault.TheVariants as fault
 
--- why a database is not opened whose rows do not pass
-abbrev pub open_fault_by : AuditFault → OpenFault
-open_fault_by audit.Memory = fault.Memory
-open_fault_by audit.Store = fault.Store
-open_fault_by audit.Damaged = fault.Damaged
+-- why a database is not opened whose rows do not pass: a count that has no room is told as want of memory
+abbrev pub open_fault_by : RowFault → OpenFault
+open_fault_by row.Memory = fault.Memory
+open_fault_by row.Schema = fault.Damaged
+open_fault_by row.Damaged = fault.Damaged
+open_fault_by row.Overflow = fault.Memory
+open_fault_by (row.Refused error) = fault.Store
 
 -- one office is told of, by a row that can be read under that layout
 abbrev pub IsOneOffice : ℕ → List Row → Type 0

@@ -14,8 +14,8 @@ use Rattle.society_rows.specs.declared.older.OlderLayout.TheVariants as older
 use Rattle.society_book.specs.Kept.{HoldsBook, HoldsOwnBook}
 use Rattle.society_opening.specs.Older.{HoldsOlder, Takes, office_row_under}
 use Rattle.book_audit.specs.Audited.{IsRegistered}
-use Rattle.book_audit.specs.Examining.{AuditFaultSays}
-use Rattle.book_audit.specs.declared.audit_fault.AuditFault.{AuditFault}
+use Rattle.society_rows.specs.Effects.{FaultSays}
+use Rattle.society_rows.specs.declared.fault.RowFault.{RowFault}
 use Rattle.book_derivation.specs.Deriving.{HasNoLines, HasNoMoney, HoldsUnderived}
 
 -- Statements in a transaction: where the database was of a kind, an answer says this of it before and after; nothing is committed, and a
@@ -75,5 +75,5 @@ abbrev pub StandsForNone : Office → OlderLayout → Trees → Type 0
 StandsForNone office layout db = HoldsOlder office layout db → ⊥
 
 -- over an older layout a fault says why the tables are not taken over
-abbrev pub FaultsOver : Office → OlderLayout → State → State → Result (Unit {0}) AuditFault → Type 0
-FaultsOver office layout old new result = HasCleanDisk new → IsTrue old.in_transaction → HasOlder layout old.now → IfErr result (AuditFaultSays (StandsForNone office layout) old new)
+abbrev pub FaultsOver : Office → OlderLayout → State → State → Result (Unit {0}) RowFault → Type 0
+FaultsOver office layout old new result = HasCleanDisk new → IsTrue old.in_transaction → HasOlder layout old.now → IfErr result (FaultSays (StandsForNone office layout) old new)

@@ -1,7 +1,8 @@
 //! What an audit finds of the tables of layout 3 in a transaction.
 ghost use Rattle.std.specs.Prelude.{[], ◌∷◌, ◌≡◌, ◌≢◌, IfErr, IfOk};
 ghost use Rattle.book_audit.specs.Audited.{IsNumbered, IsRegistered};
-ghost use Rattle.book_audit.specs.Examining.{Examines, HoldsNot};
+ghost use Rattle.book_audit.specs.Examining.{HoldsNot};
+ghost use Rattle.society_book.specs.Steps.{Examines};
 ghost use Rattle.society_book.specs.Kept.{HoldsOwnBook};
 ghost use Rattle.society_opening.specs.Older.{office_row_under};
 ghost use Rattle.society_opening.specs.Opening.{TellsOffice};
@@ -17,9 +18,9 @@ ghost use Rattle.society_rows.specs.TableNames.{table_called};
 
 use crate::OpenFault;
 use crate::reading_fault::fault_of_reading;
-use book_audit::{AuditFault, audit};
+use book_audit::audit;
 use share_rules::Office;
-use society_rows::{LAYOUT, OfficeRow, TableName, all_rows, are_numbered};
+use society_rows::{LAYOUT, OfficeRow, RowFault, TableName, all_rows, are_numbered};
 use sqlite::{Alter, Row, Transaction};
 use std::alloc::Global;
 
@@ -59,23 +60,25 @@ pub(crate) fn office_agrees<S: Alter>(
     ensures other { IfErr result (λ e. e ≢ Damaged) }
     ensures there { IfErr result (λ e. e ≢ Empty) }
 {
-    let rows = all_rows(tx, TableName::Office)?;
-    check_office(rows.as_slice(), office, number)
-}
-
-// That each row of a table has a whole number as its rowid; else `Damaged`.
-fn check_numbers<S: Alter>(tx: &mut Transaction<'_, S>, table: TableName) -> Result<(), AuditFault>
-    ensures examined { Within S.Store tx.old tx.new (Examines (λ db. AreNumbered (table_called table) db → ⊥)) result (λ db _. AreNumbered (table_called table) db) }
-{
-    match are_numbered(tx, table) {
-        Ok(true) => Ok(()),
-        Ok(false) => Err(AuditFault::Damaged),
+    match all_rows(tx, TableName::Office) {
+        Ok(rows) => check_office(rows.as_slice(), office, number),
         Err(fault) => Err(fault_of_reading(fault)),
     }
 }
 
+// That each row of a table has a whole number as its rowid; else `Damaged`.
+fn check_numbers<S: Alter>(tx: &mut Transaction<'_, S>, table: TableName) -> Result<(), RowFault>
+    ensures examined { Within S.Store tx.old tx.new (Examines (λ db. AreNumbered (table_called table) db → ⊥)) result (λ db _. AreNumbered (table_called table) db) }
+{
+    if are_numbered(tx, table)? {
+        Ok(())
+    } else {
+        Err(RowFault::Damaged)
+    }
+}
+
 // That what is put over another row has a whole number as its rowid; else `Damaged`.
-fn fronts_and_balances_numbered<S: Alter>(tx: &mut Transaction<'_, S>) -> Result<(), AuditFault>
+fn fronts_and_balances_numbered<S: Alter>(tx: &mut Transaction<'_, S>) -> Result<(), RowFault>
     ensures examined { Within S.Store tx.old tx.new (Examines (λ db. IsNumbered db → ⊥)) result (λ db _. IsNumbered db) }
 {
     check_numbers(tx, TableName::Fronts)?;
@@ -83,12 +86,12 @@ fn fronts_and_balances_numbered<S: Alter>(tx: &mut Transaction<'_, S>) -> Result
 }
 
 /// That tables with the row of this office hold the book that they stand for, with exactly what is derived of it, and can be written; else
-/// `Damaged`, and `Memory` or `Store` where memory or the database failed. Nothing is written.
+/// `Damaged`, and `Memory` or `Refused` where memory or the database failed. Nothing is written.
 pub(crate) fn examine_whole<S: Alter>(
     alloc: Global,
     tx: &mut Transaction<'_, S>,
     office: &Office,
-) -> Result<(), AuditFault>
+) -> Result<(), RowFault>
     ensures examined { Within S.Store tx.old tx.new (Examines (HoldsNot office.now)) result (λ db _. IsRegistered office.now db → HoldsOwnBook office.now db) }
 {
     fronts_and_balances_numbered(tx)?;

@@ -5,7 +5,6 @@ ghost use Rattle.society_opening.specs.Reading.{reading_fault_by};
 ghost use Rattle.society_opening.specs.Opening.{open_fault_by};
 
 use crate::reading_fault::fault_of_reading;
-use book_audit::AuditFault;
 use society_rows::RowFault;
 use sqlite::Error;
 
@@ -33,29 +32,22 @@ pub enum OpenFault {
 }
 
 impl From<RowFault> for OpenFault {
-    ghost from_gives = { λ fault told. told ≡ open_fault_by (reading_fault_by fault) };
+    ghost from_gives = { λ fault told. told ≡ open_fault_by fault };
 
     fn from(fault: RowFault) -> OpenFault {
-        OpenFault::from(fault_of_reading(fault))
+        match fault {
+            // A count that has no room is told as want of memory.
+            RowFault::Memory | RowFault::Overflow => OpenFault::Memory,
+            RowFault::Refused(_) => OpenFault::Store,
+            RowFault::Damaged | RowFault::Schema => OpenFault::Damaged,
+        }
     }
 }
 
 impl From<Error> for OpenFault {
-    ghost from_gives = { λ error told. told ≡ open_fault_by (reading_fault_by (fault_of_error error)) };
+    ghost from_gives = { λ error told. told ≡ reading_fault_by (fault_of_error error) };
 
     fn from(error: Error) -> OpenFault {
-        OpenFault::from(RowFault::from(error))
-    }
-}
-
-impl From<AuditFault> for OpenFault {
-    ghost from_gives = { λ fault told. told ≡ open_fault_by fault };
-
-    fn from(fault: AuditFault) -> OpenFault {
-        match fault {
-            AuditFault::Memory => OpenFault::Memory,
-            AuditFault::Store => OpenFault::Store,
-            AuditFault::Damaged => OpenFault::Damaged,
-        }
+        fault_of_reading(RowFault::from(error))
     }
 }

@@ -58,7 +58,7 @@ fn begin<S: Alter>(conn: &mut Idle<S>, office: &Office) -> Result<(), OpenFault>
     };
     match create(conn, &row) {
         Ok(()) => Ok(()),
-        Err(fault) => Err(OpenFault::from(fault_of_writing(&fault))),
+        Err(fault) => Err(OpenFault::from(fault_of_writing(fault))),
     }
 }
 

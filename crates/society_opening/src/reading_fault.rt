@@ -2,15 +2,15 @@
 ghost use Rattle.std.specs.Prelude.{◌≡◌};
 ghost use Rattle.society_opening.specs.Reading.{reading_fault_by};
 
-use book_audit::AuditFault;
+use crate::OpenFault;
 use society_rows::RowFault;
 
 /// What a fault of a reading is told as: want of memory, or else that the database failed.
-pub(crate) fn fault_of_reading(fault: RowFault) -> AuditFault
+pub(crate) fn fault_of_reading(fault: RowFault) -> OpenFault
     ensures value { result ≡ reading_fault_by fault }
 {
     match fault {
-        RowFault::Memory => AuditFault::Memory,
-        _ => AuditFault::Store,
+        RowFault::Memory => OpenFault::Memory,
+        _ => OpenFault::Store,
     }
 }

@@ -10,10 +10,9 @@ ghost use Rattle.society_opening.specs.declared.open_fault.OpenFault.TheVariants
 
 use crate::OpenFault;
 use crate::examining::{examine_whole, office_agrees};
-use book_audit::AuditFault;
 use book_derivation::{derive, fault_of_writing};
 use share_rules::Office;
-use society_rows::{Idle, OlderLayout, raise_inside};
+use society_rows::{Idle, OlderLayout, RowFault, raise_inside};
 use sqlite::{Alter, Transaction};
 use std::alloc::Global;
 
@@ -24,7 +23,7 @@ fn complete<S: Alter>(
     tx: &mut Transaction<'_, S>,
     office: &Office,
     layout: OlderLayout,
-) -> Result<(), AuditFault>
+) -> Result<(), RowFault>
     ensures derives { Within S.Store tx.old tx.new (Derives (LacksRaised office.now layout)) result (λ before after _. CompletesRaised office.now layout before after) }
 {
     match layout {
@@ -39,13 +38,13 @@ fn take_inside<S: Alter>(
     tx: &mut Transaction<'_, S>,
     office: &Office,
     layout: OlderLayout,
-) -> Result<(), AuditFault>
+) -> Result<(), RowFault>
     ensures does { Within S.Store tx.old tx.new (DoesOver (HasOlder layout)) result (TakesNamed office.now layout) }
     ensures faults { within S.Store tx.old tx.new (FaultsOver office.now layout) result }
 {
     match raise_inside(tx, layout) {
         Ok(()) => complete(alloc, tx, office, layout),
-        Err(fault) => Err(fault_of_writing(&fault)),
+        Err(fault) => Err(fault_of_writing(fault)),
     }
 }
 

@@ -5,7 +5,7 @@ use Rattle.sqlite_value.specs.declared.value.Value.TheVariants.{Int, Text}
 use Rattle.sqlite_trees.specs.Tree.{Trees}
 use Rattle.sqlite.specs.Effect.{Database}
 use Rattle.society_rows.specs.declared.fault.RowFault.{RowFault}
-use Rattle.society_rows.specs.declared.fault.RowFault.TheVariants.{Overflow, Unread}
+use Rattle.society_rows.specs.declared.fault.RowFault.TheVariants.{Overflow, Damaged}
 use Rattle.society_rows.specs.Faults.{IsFailure}
 use Rattle.society_rows.specs.Layout.{balances}
 use Rattle.society_rows.specs.Reads.{has_key}
@@ -28,7 +28,7 @@ HasNoUnits account db = (units : ℤ) → FitsSigned w64 units → ¬ HasUnits a
 
 -- why an account's units are not told: a failure, or there are no such units
 abbrev pub HidesUnits : List ℕ → Trees → RowFault → Type 0
-HidesUnits account db fault = IsFailure fault ⊎ ((fault ≡ Unread) × HasNoUnits account db)
+HidesUnits account db fault = IsFailure fault ⊎ ((fault ≡ Damaged) × HasNoUnits account db)
 
 -- why units are not added: the account's are not told, or the sum doesn't fit 64 bits
 abbrev pub RefusesUnits : List ℕ → ℤ → Trees → RowFault → Type 0

@@ -57,7 +57,7 @@ BlamesMedium = BlamesMediumOver HasLayout
 abbrev pub FaultSays : (Trees → Type 0) → State → State → RowFault → Type 0
 FaultSays Wrong old new fault.Memory = Unit {0}
 FaultSays Wrong old new fault.Schema = Wrong old.now.trees
-FaultSays Wrong old new fault.Unread = Wrong old.now.trees
+FaultSays Wrong old new fault.Damaged = Wrong old.now.trees
 FaultSays Wrong old new fault.Overflow = Unit {0}
 FaultSays Wrong old new (fault.Refused error) = MayFail old new
 

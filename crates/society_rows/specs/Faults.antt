@@ -5,7 +5,7 @@ use Rattle.sqlite.specs.declared.error.ErrorCode.TheVariants.{OutOfMemory, Opera
 use Rattle.sqlite.specs.declared.error.Error.{Error}
 use Rattle.sqlite.specs.declared.error.Error.TheVariants.{SqliteFailure, SqlInputError, InvalidParameterCount, ExecuteReturnedResults, InvalidQuery, MultipleStatement, QueryReturnedNoRows, InvalidColumnIndex, InvalidColumnType, IntegralValueOutOfRange, Utf8Error}
 use Rattle.society_rows.specs.declared.fault.RowFault.{RowFault}
-use Rattle.society_rows.specs.declared.fault.RowFault.TheVariants.{Memory, Schema, Unread, Refused}
+use Rattle.society_rows.specs.declared.fault.RowFault.TheVariants.{Memory, Schema, Damaged, Refused}
 
 -- want of memory, a statement that doesn't fit the schema, a value of another form, or else the error itself
 abbrev pub fault_of_error : Error → RowFault
@@ -17,10 +17,10 @@ fault_of_error ExecuteReturnedResults = Schema
 fault_of_error InvalidQuery = Schema
 fault_of_error MultipleStatement = Schema
 fault_of_error QueryReturnedNoRows = Refused QueryReturnedNoRows
-fault_of_error (InvalidColumnIndex at) = Unread
-fault_of_error (InvalidColumnType at found) = Unread
-fault_of_error (IntegralValueOutOfRange at) = Unread
-fault_of_error (Utf8Error at) = Unread
+fault_of_error (InvalidColumnIndex at) = Damaged
+fault_of_error (InvalidColumnType at found) = Damaged
+fault_of_error (IntegralValueOutOfRange at) = Damaged
+fault_of_error (Utf8Error at) = Damaged
 
 -- want of memory, or what SQLite told as a failure
 abbrev pub IsFailure : RowFault → Type 0

@@ -5,7 +5,7 @@ use Rattle.sqlite_value.specs.Order.{Row}
 use Rattle.sqlite_trees.specs.Tree.{Trees}
 use Rattle.sqlite.specs.State.{HasCleanDisk, IsRolledBack, IsUnchanged, KeepsCommit, State, Survives}
 use Rattle.society_rows.specs.declared.fault.RowFault.{RowFault}
-use Rattle.society_rows.specs.declared.fault.RowFault.TheVariants.{Unread}
+use Rattle.society_rows.specs.declared.fault.RowFault.TheVariants.{Damaged}
 use Rattle.society_rows.specs.Effects.{ErrsByMedium, IsFailureOf}
 use Rattle.society_rows.specs.Layout.{transmissions}
 use Rattle.society_rows.specs.Reads.{Lists, has_key}
@@ -69,8 +69,8 @@ IsNoRun old new sender number = HasCleanDisk new → HasLayout old.now → AreDo
 -- an error says want of memory, or where the reading may fail, or that a row was refused or that there is no run
 abbrev pub ErrsByRun : {X F : Type 0} → (F → Row → F) → (F → Row → RowFault → Type 0) → List ℕ → ℕ → F → State → State → Result X RowFault → Type 0
 ErrsByRun step refusal sender number begun old new result =
-    ErrsByMedium old new result ⊎ IfErr result (λ fault. RefusesRow step refusal (AreFirstOfRun old new sender number) begun fault ⊎ ((fault ≡ Unread) × IsNoRun old new sender number))
+    ErrsByMedium old new result ⊎ IfErr result (λ fault. RefusesRow step refusal (AreFirstOfRun old new sender number) begun fault ⊎ ((fault ≡ Damaged) × IsNoRun old new sender number))
 
 -- why a run was not gone over up to its gap: a failure, a row was refused, several stand under a number, or no number is free
 pub record StopsRun {F : Type 0} (step : F → Row → F) (refusal : F → Row → RowFault → Type 0) (old new : State) (sender : List ℕ) (number : ℕ) (begun : F) (fault : RowFault) : Type 0 where
-  pub why : IsFailureOf old new fault ⊎ (RefusesRow step refusal (AreFirstOfRun old new sender number) begun fault ⊎ ((fault ≡ Unread) × IsNoRun old new sender number))
+  pub why : IsFailureOf old new fault ⊎ (RefusesRow step refusal (AreFirstOfRun old new sender number) begun fault ⊎ ((fault ≡ Damaged) × IsNoRun old new sender number))

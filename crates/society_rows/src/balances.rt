@@ -3,7 +3,7 @@ ghost use Rattle.std.specs.Prelude.{◌≡◌, IfOk, IfErr, FitsSigned};
 ghost use Rattle.std.specs.Int.{w64};
 ghost use Rattle.sqlite.specs.State.{HasCleanDisk};
 ghost use Rattle.sqlite.specs.Values.{bound};
-ghost use Rattle.society_rows.specs.declared.fault.RowFault.TheVariants.{Unread};
+ghost use Rattle.society_rows.specs.declared.fault.RowFault.TheVariants.{Damaged};
 ghost use Rattle.society_rows.specs.Balances.{HasUnits, AddsUnits, HidesUnits, RefusesUnits};
 ghost use Rattle.society_rows.specs.Effects.{IsAllOrNothing, OnlyFails, Writes};
 ghost use Rattle.society_rows.specs.Folds.{ReadsInside};
@@ -48,16 +48,16 @@ pub struct BalanceRow<'a> {
 }
 
 impl<'a> BalanceRow<'a> {
-    /// The row that these values are, in the order of the columns; else `Unread`.
+    /// The row that these values are, in the order of the columns; else `Damaged`.
     #[tactic(auto, using(crate::proofs::lemmas::changes::Columns::row_columns))]
     pub fn from_row(row: &'a Row) -> Result<BalanceRow<'a>, RowFault>
         ensures value { IfOk result (λ x. balance_values x ≡ row.now) }
         ensures read { IsRead balance_forms row.now result }
         ensures range { IfOk result (λ x. FitsSigned w64 x.units) }
-        ensures err { IfErr result (λ e. e ≡ Unread) }
+        ensures err { IfErr result (λ e. e ≡ Damaged) }
     {
         if row.column_count() != 2 {
-            return Err(RowFault::Unread);
+            return Err(RowFault::Damaged);
         }
         Ok(BalanceRow {
             account: text(row, 0)?,
@@ -87,7 +87,7 @@ fn put_balance<S: Alter>(tx: &mut Transaction<'_, S>, row: &BalanceRow<'_>) -> R
     )
 }
 
-/// The units of an account, 0 where it has no balance; `Unread` where it has two.
+/// The units of an account, 0 where it has no balance; `Damaged` where it has two.
 pub(crate) fn units_of<S: Alter>(
     tx: &mut Transaction<'_, S>,
     account: &[u8],
@@ -101,7 +101,7 @@ pub(crate) fn units_of<S: Alter>(
     match rows.as_slice() {
         [] => Ok(0),
         [row] => Ok(BalanceRow::from_row(row)?.units),
-        _ => Err(RowFault::Unread),
+        _ => Err(RowFault::Damaged),
     }
 }
 

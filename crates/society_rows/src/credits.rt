@@ -1,7 +1,7 @@
 //! The table of credits.
 ghost use Rattle.std.specs.Prelude.{◌≡◌, IfOk, IfErr};
 ghost use Rattle.sqlite.specs.Values.{bound};
-ghost use Rattle.society_rows.specs.declared.fault.RowFault.TheVariants.{Unread};
+ghost use Rattle.society_rows.specs.declared.fault.RowFault.TheVariants.{Damaged};
 ghost use Rattle.society_rows.specs.Forms.{IsRead, credit_forms};
 ghost use Rattle.society_rows.specs.Layout.{credits_table};
 ghost use Rattle.society_rows.specs.Rows.{credit_values};
@@ -60,15 +60,15 @@ pub struct CreditRow<'a> {
 }
 
 impl<'a> CreditRow<'a> {
-    /// The row that these values are, in the order of the columns; else `Unread`.
+    /// The row that these values are, in the order of the columns; else `Damaged`.
     #[tactic(auto, using(crate::proofs::lemmas::changes::Columns::row_columns))]
     pub fn from_row(row: &'a Row) -> Result<CreditRow<'a>, RowFault>
         ensures value { IfOk result (λ x. credit_values x ≡ row.now) }
         ensures read { IsRead credit_forms row.now result }
-        ensures err { IfErr result (λ e. e ≡ Unread) }
+        ensures err { IfErr result (λ e. e ≡ Damaged) }
     {
         if row.column_count() != 5 {
-            return Err(RowFault::Unread);
+            return Err(RowFault::Damaged);
         }
         Ok(CreditRow {
             pool: whole(row, 0)?,

@@ -6,17 +6,17 @@ ghost use Rattle.society_rows.specs.declared.fault.RowFault.TheVariants.{Memory}
 use sqlite::{Error, ErrorCode};
 use std::alloc::{AllocError, AllocFailed};
 
-/// Why a statement gave no rows or wrote none: memory ran out; the statement doesn't fit the schema; a value has
-/// another form than its column's (`Unread`); a sum of units doesn't fit 64 bits; or SQLite refused the statement, or
-/// the store failed, as it said (`Refused`).
+/// Why a statement gave no rows or wrote none, or rows do not pass: memory ran out; the statement doesn't fit the schema; the rows are
+/// not what an office writes, by a value of another form than its column's or by what stands in others (`Damaged`); a sum of units
+/// doesn't fit 64 bits; or SQLite refused the statement, or the store failed, as it said (`Refused`).
 #[derive(Clone, Copy, Debug, PartialEq, Eq, Drop, thiserror::Error)]
 pub enum RowFault {
     #[error("out of memory")]
     Memory,
     #[error("the statement does not fit the schema")]
     Schema,
-    #[error("a value of another form")]
-    Unread,
+    #[error("damaged rows")]
+    Damaged,
     #[error("more units than 64 bits hold")]
     Overflow,
     #[error("the database refused")]
@@ -51,7 +51,7 @@ impl From<Error> for RowFault {
             Error::InvalidColumnIndex(_)
             | Error::InvalidColumnType(_, _)
             | Error::IntegralValueOutOfRange(_)
-            | Error::Utf8Error(_) => RowFault::Unread,
+            | Error::Utf8Error(_) => RowFault::Damaged,
             Error::QueryReturnedNoRows => RowFault::Refused(error),
             _ => RowFault::Schema,
         }

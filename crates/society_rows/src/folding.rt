@@ -2,7 +2,7 @@
 ghost use Rattle.std.specs.Prelude.{◌≡◌, IfErr, OnOk};
 ghost use Rattle.sqlite_value.specs.Order.{Row as SqlRow};
 ghost use Rattle.society_rows.specs.Folds.{ErrsByRun, HasTaken, IsRun, ReadsInside, StopsRun};
-ghost use Rattle.society_rows.specs.declared.fault.RowFault.TheVariants.{Unread};
+ghost use Rattle.society_rows.specs.declared.fault.RowFault.TheVariants.{Damaged};
 ghost use Rattle.society_rows.specs.Between.{Within, within};
 
 use crate::{Question, RowFault, answer};
@@ -25,7 +25,7 @@ pub trait RowFold {
 }
 
 /// Goes over the transmissions of a sender from a number upwards, up to the first number that is not there, each by its
-/// key. After an error some have been taken; `Unread` also says that a key has two rows, or that no number is free.
+/// key. After an error some have been taken; `Damaged` also says that a key has two rows, or that no number is free.
 pub fn fold_run<S: Alter, F: RowFold>(
     tx: &mut Transaction<'_, S>,
     sender: &[u8],
@@ -43,8 +43,8 @@ pub fn fold_run<S: Alter, F: RowFold>(
         match rows.as_slice() {
             [] => return Ok(()),
             [row] => into.take(row)?,
-            _ => return Err(RowFault::Unread),
+            _ => return Err(RowFault::Damaged),
         }
     }
-    Err(RowFault::Unread)
+    Err(RowFault::Damaged)
 }

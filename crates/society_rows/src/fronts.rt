@@ -1,7 +1,7 @@
 //! The table of fronts.
 ghost use Rattle.std.specs.Prelude.{◌≡◌, IfOk, IfErr};
 ghost use Rattle.sqlite.specs.Values.{bound};
-ghost use Rattle.society_rows.specs.declared.fault.RowFault.TheVariants.{Unread};
+ghost use Rattle.society_rows.specs.declared.fault.RowFault.TheVariants.{Damaged};
 ghost use Rattle.society_rows.specs.Effects.{BlamesMedium, IsAllOrNothing, OnlyFails, Writes};
 ghost use Rattle.society_rows.specs.Forms.{IsRead, front_forms};
 ghost use Rattle.society_rows.specs.Layout.{fronts};
@@ -47,15 +47,15 @@ pub struct FrontRow<'a> {
 }
 
 impl<'a> FrontRow<'a> {
-    /// The row that these values are, in the order of the columns; else `Unread`.
+    /// The row that these values are, in the order of the columns; else `Damaged`.
     #[tactic(auto, using(crate::proofs::lemmas::changes::Columns::row_columns))]
     pub fn from_row(row: &'a Row) -> Result<FrontRow<'a>, RowFault>
         ensures value { IfOk result (λ x. front_values x ≡ row.now) }
         ensures read { IsRead front_forms row.now result }
-        ensures err { IfErr result (λ e. e ≡ Unread) }
+        ensures err { IfErr result (λ e. e ≡ Damaged) }
     {
         if row.column_count() != 3 {
-            return Err(RowFault::Unread);
+            return Err(RowFault::Damaged);
         }
         Ok(FrontRow {
             sender: text(row, 0)?,

@@ -2,7 +2,7 @@
 //!
 //! The rows of a table stand for a set, seen as a list up to its order. But for `create`, each call runs within a
 //! transaction of the caller's and commits nothing. Over layout 3, and where the disk told the truth, a fault is want
-//! of memory or a failure that SQLite told, but for `Unread` of a reader and of units that are not one row or none,
+//! of memory or a failure that SQLite told, but for `Damaged` of a reader and of units that are not one row or none,
 //! `Overflow` of a sum, and what ends a fold.
 #![tactic(auto)]
 

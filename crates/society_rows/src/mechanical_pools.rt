@@ -1,7 +1,7 @@
 //! The table of pools of mechanical rights.
 ghost use Rattle.std.specs.Prelude.{◌≡◌, IfOk, IfErr};
 ghost use Rattle.sqlite.specs.Values.{bound};
-ghost use Rattle.society_rows.specs.declared.fault.RowFault.TheVariants.{Unread};
+ghost use Rattle.society_rows.specs.declared.fault.RowFault.TheVariants.{Damaged};
 ghost use Rattle.society_rows.specs.Forms.{IsRead, mechanical_pool_forms};
 ghost use Rattle.society_rows.specs.Rows.{mechanical_pool_values};
 
@@ -43,15 +43,15 @@ pub struct MechanicalPoolRow {
 }
 
 impl MechanicalPoolRow {
-    /// The row that these values are, in the order of the columns; else `Unread`.
+    /// The row that these values are, in the order of the columns; else `Damaged`.
     #[tactic(auto, using(crate::proofs::lemmas::changes::Columns::row_columns))]
     pub fn from_row(row: &Row) -> Result<MechanicalPoolRow, RowFault>
         ensures value { IfOk result (λ x. mechanical_pool_values x ≡ row.now) }
         ensures read { IsRead mechanical_pool_forms row.now result }
-        ensures err { IfErr result (λ e. e ≡ Unread) }
+        ensures err { IfErr result (λ e. e ≡ Damaged) }
     {
         if row.column_count() != 1 {
-            return Err(RowFault::Unread);
+            return Err(RowFault::Damaged);
         }
         Ok(MechanicalPoolRow {
             pool: whole(row, 0)?,

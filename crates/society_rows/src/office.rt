@@ -1,7 +1,7 @@
 //! The table of the office, which has one row.
 ghost use Rattle.std.specs.Prelude.{◌≡◌, IfOk, IfErr};
 ghost use Rattle.sqlite.specs.Values.{bound};
-ghost use Rattle.society_rows.specs.declared.fault.RowFault.TheVariants.{Unread};
+ghost use Rattle.society_rows.specs.declared.fault.RowFault.TheVariants.{Damaged};
 ghost use Rattle.society_rows.specs.Forms.{IsRead, office_forms, office_forms_under};
 ghost use Rattle.society_rows.specs.Rows.{office_values, office_values_under};
 
@@ -47,29 +47,29 @@ pub struct OfficeRow<'a> {
 }
 
 impl<'a> OfficeRow<'a> {
-    /// The row that these values are, in the order of the columns; else `Unread`, also where the layout is not 3.
+    /// The row that these values are, in the order of the columns; else `Damaged`, also where the layout is not 3.
     pub fn from_row(row: &'a Row) -> Result<OfficeRow<'a>, RowFault>
         ensures value { IfOk result (λ x. office_values x ≡ row.now) }
         ensures read { IsRead office_forms row.now result }
-        ensures err { IfErr result (λ e. e ≡ Unread) }
+        ensures err { IfErr result (λ e. e ≡ Damaged) }
     {
         OfficeRow::from_row_under(row, LAYOUT)
     }
 
-    /// The row that these values are under a layout, by its number; else `Unread`, also where the layout is another.
+    /// The row that these values are under a layout, by its number; else `Damaged`, also where the layout is another.
     #[tactic(auto, using(crate::proofs::lemmas::changes::Columns::row_columns))]
     pub fn from_row_under(row: &'a Row, layout: u32) -> Result<OfficeRow<'a>, RowFault>
         ensures value { IfOk result (λ x. office_values_under layout x ≡ row.now) }
         ensures read { IsRead (office_forms_under layout) row.now result }
-        ensures err { IfErr result (λ e. e ≡ Unread) }
+        ensures err { IfErr result (λ e. e ≡ Damaged) }
     {
         if row.column_count() != 5 {
-            return Err(RowFault::Unread);
+            return Err(RowFault::Damaged);
         }
         let one = whole(row, 0)?;
         let said = whole(row, 1)?;
         if one != 1 || said != layout {
-            return Err(RowFault::Unread);
+            return Err(RowFault::Damaged);
         }
         Ok(OfficeRow {
             society: whole(row, 2)?,

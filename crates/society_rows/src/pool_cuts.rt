@@ -1,7 +1,7 @@
 //! The table of the cuts of pools.
 ghost use Rattle.std.specs.Prelude.{◌≡◌, IfOk, IfErr};
 ghost use Rattle.sqlite.specs.Values.{bound};
-ghost use Rattle.society_rows.specs.declared.fault.RowFault.TheVariants.{Unread};
+ghost use Rattle.society_rows.specs.declared.fault.RowFault.TheVariants.{Damaged};
 ghost use Rattle.society_rows.specs.Forms.{IsRead, pool_cut_forms};
 ghost use Rattle.society_rows.specs.Layout.{pool_cuts};
 ghost use Rattle.society_rows.specs.Rows.{pool_cut_values};
@@ -59,15 +59,15 @@ pub struct PoolCutRow<'a> {
 }
 
 impl<'a> PoolCutRow<'a> {
-    /// The row that these values are, in the order of the columns; else `Unread`.
+    /// The row that these values are, in the order of the columns; else `Damaged`.
     #[tactic(auto, using(crate::proofs::lemmas::changes::Columns::row_columns))]
     pub fn from_row(row: &'a Row) -> Result<PoolCutRow<'a>, RowFault>
         ensures value { IfOk result (λ x. pool_cut_values x ≡ row.now) }
         ensures read { IsRead pool_cut_forms row.now result }
-        ensures err { IfErr result (λ e. e ≡ Unread) }
+        ensures err { IfErr result (λ e. e ≡ Damaged) }
     {
         if row.column_count() != 3 {
-            return Err(RowFault::Unread);
+            return Err(RowFault::Damaged);
         }
         Ok(PoolCutRow {
             pool: whole(row, 0)?,

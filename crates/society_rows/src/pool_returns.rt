@@ -1,7 +1,7 @@
 //! The table of the returns that pools pay.
 ghost use Rattle.std.specs.Prelude.{◌≡◌, IfOk, IfErr};
 ghost use Rattle.sqlite.specs.Values.{bound};
-ghost use Rattle.society_rows.specs.declared.fault.RowFault.TheVariants.{Unread};
+ghost use Rattle.society_rows.specs.declared.fault.RowFault.TheVariants.{Damaged};
 ghost use Rattle.society_rows.specs.Forms.{IsRead, pool_return_forms};
 ghost use Rattle.society_rows.specs.Layout.{pool_returns};
 ghost use Rattle.society_rows.specs.Rows.{pool_return_values};
@@ -64,15 +64,15 @@ pub struct PoolReturnRow<'a> {
 }
 
 impl<'a> PoolReturnRow<'a> {
-    /// The row that these values are, in the order of the columns; else `Unread`.
+    /// The row that these values are, in the order of the columns; else `Damaged`.
     #[tactic(auto, using(crate::proofs::lemmas::changes::Columns::row_columns))]
     pub fn from_row(row: &'a Row) -> Result<PoolReturnRow<'a>, RowFault>
         ensures value { IfOk result (λ x. pool_return_values x ≡ row.now) }
         ensures read { IsRead pool_return_forms row.now result }
-        ensures err { IfErr result (λ e. e ≡ Unread) }
+        ensures err { IfErr result (λ e. e ≡ Damaged) }
     {
         if row.column_count() != 3 {
-            return Err(RowFault::Unread);
+            return Err(RowFault::Damaged);
         }
         Ok(PoolReturnRow {
             reporter: text(row, 0)?,

@@ -2,7 +2,7 @@
 ghost use Rattle.std.specs.Prelude.{◌≡◌, IfOk, IfErr, FitsSigned};
 ghost use Rattle.std.specs.Int.{w64};
 ghost use Rattle.sqlite.specs.Values.{bound};
-ghost use Rattle.society_rows.specs.declared.fault.RowFault.TheVariants.{Unread};
+ghost use Rattle.society_rows.specs.declared.fault.RowFault.TheVariants.{Damaged};
 ghost use Rattle.society_rows.specs.Forms.{IsRead, pool_forms};
 ghost use Rattle.society_rows.specs.Rows.{pool_values};
 
@@ -40,16 +40,16 @@ pub struct PoolRow {
 }
 
 impl PoolRow {
-    /// The row that these values are, in the order of the columns; else `Unread`.
+    /// The row that these values are, in the order of the columns; else `Damaged`.
     #[tactic(auto, using(crate::proofs::lemmas::changes::Columns::row_columns))]
     pub fn from_row(row: &Row) -> Result<PoolRow, RowFault>
         ensures value { IfOk result (λ x. pool_values x ≡ row.now) }
         ensures range { IfOk result (λ x. FitsSigned w64 x.amount) }
         ensures read { IsRead pool_forms row.now result }
-        ensures err { IfErr result (λ e. e ≡ Unread) }
+        ensures err { IfErr result (λ e. e ≡ Damaged) }
     {
         if row.column_count() != 2 {
-            return Err(RowFault::Unread);
+            return Err(RowFault::Damaged);
         }
         Ok(PoolRow {
             pool: whole(row, 0)?,

@@ -1,7 +1,7 @@
 //! The table of performance returns.
 ghost use Rattle.std.specs.Prelude.{◌≡◌, IfOk, IfErr};
 ghost use Rattle.sqlite.specs.Values.{bound};
-ghost use Rattle.society_rows.specs.declared.fault.RowFault.TheVariants.{Unread};
+ghost use Rattle.society_rows.specs.declared.fault.RowFault.TheVariants.{Damaged};
 ghost use Rattle.society_rows.specs.Forms.{IsRead, return_forms};
 ghost use Rattle.society_rows.specs.Rows.{return_values};
 
@@ -48,15 +48,15 @@ pub struct ReturnRow<'a> {
 }
 
 impl<'a> ReturnRow<'a> {
-    /// The row that these values are, in the order of the columns; else `Unread`.
+    /// The row that these values are, in the order of the columns; else `Damaged`.
     #[tactic(auto, using(crate::proofs::lemmas::changes::Columns::row_columns))]
     pub fn from_row(row: &'a Row) -> Result<ReturnRow<'a>, RowFault>
         ensures value { IfOk result (λ x. return_values x ≡ row.now) }
         ensures read { IsRead return_forms row.now result }
-        ensures err { IfErr result (λ e. e ≡ Unread) }
+        ensures err { IfErr result (λ e. e ≡ Damaged) }
     {
         if row.column_count() != 3 {
-            return Err(RowFault::Unread);
+            return Err(RowFault::Damaged);
         }
         Ok(ReturnRow {
             reporter: text(row, 0)?,

@@ -2,7 +2,7 @@
 ghost use Rattle.std.specs.Prelude.{◌≡◌, ◌≤◌, FitsSigned, IfOk, IfErr};
 ghost use Rattle.std.specs.Int.{w64};
 ghost use Rattle.sqlite.specs.Values.{bound};
-ghost use Rattle.society_rows.specs.declared.fault.RowFault.TheVariants.{Unread};
+ghost use Rattle.society_rows.specs.declared.fault.RowFault.TheVariants.{Damaged};
 ghost use Rattle.society_rows.specs.Forms.{IsRead, segment_end_forms};
 ghost use Rattle.society_rows.specs.Rows.{segment_end_values};
 ghost use Rattle.society_rows.specs.SegmentColumns.{segment_column};
@@ -53,16 +53,16 @@ pub struct SegmentEndRow<'a> {
 }
 
 impl<'a> SegmentEndRow<'a> {
-    /// The row that these values are, in the order of the columns; else `Unread`, also where the segment is a year above 99.
+    /// The row that these values are, in the order of the columns; else `Damaged`, also where the segment is a year above 99.
     #[tactic(auto, using(crate::proofs::lemmas::changes::Columns::row_columns))]
     pub fn from_row(row: &'a Row) -> Result<SegmentEndRow<'a>, RowFault>
         ensures value { IfOk result (λ x. segment_end_values x ≡ row.now) }
         ensures read { IsRead segment_end_forms row.now result }
         ensures range { IfOk result (λ x. index_of x.segment ≤ 100) }
-        ensures err { IfErr result (λ e. e ≡ Unread) }
+        ensures err { IfErr result (λ e. e ≡ Damaged) }
     {
         if row.column_count() != 4 {
-            return Err(RowFault::Unread);
+            return Err(RowFault::Damaged);
         }
         Ok(SegmentEndRow {
             sender: text(row, 0)?,

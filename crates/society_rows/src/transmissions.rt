@@ -1,7 +1,7 @@
 //! The table of transmissions.
 ghost use Rattle.std.specs.Prelude.{◌≡◌, IfOk, IfErr};
 ghost use Rattle.sqlite.specs.Values.{bound};
-ghost use Rattle.society_rows.specs.declared.fault.RowFault.TheVariants.{Unread};
+ghost use Rattle.society_rows.specs.declared.fault.RowFault.TheVariants.{Damaged};
 ghost use Rattle.society_rows.specs.Forms.{IsRead, transmission_forms, transmission_key_forms};
 ghost use Rattle.society_rows.specs.Rows.{transmission_values, transmission_key_values};
 
@@ -53,15 +53,15 @@ pub struct TransmissionRow<'a> {
 }
 
 impl<'a> TransmissionRow<'a> {
-    /// The row that these values are, in the order of the columns; else `Unread`.
+    /// The row that these values are, in the order of the columns; else `Damaged`.
     #[tactic(auto, using(crate::proofs::lemmas::changes::Columns::row_columns))]
     pub fn from_row(row: &'a Row) -> Result<TransmissionRow<'a>, RowFault>
         ensures value { IfOk result (λ x. transmission_values x ≡ row.now) }
         ensures read { IsRead transmission_forms row.now result }
-        ensures err { IfErr result (λ e. e ≡ Unread) }
+        ensures err { IfErr result (λ e. e ≡ Damaged) }
     {
         if row.column_count() != 3 {
-            return Err(RowFault::Unread);
+            return Err(RowFault::Damaged);
         }
         Ok(TransmissionRow {
             sender: text(row, 0)?,
@@ -90,15 +90,15 @@ pub struct TransmissionKeyRow<'a> {
 }
 
 impl<'a> TransmissionKeyRow<'a> {
-    /// The key that these values are, in the order of the columns; else `Unread`.
+    /// The key that these values are, in the order of the columns; else `Damaged`.
     #[tactic(auto, using(crate::proofs::lemmas::changes::Columns::row_columns))]
     pub fn from_row(row: &'a Row) -> Result<TransmissionKeyRow<'a>, RowFault>
         ensures value { IfOk result (λ x. transmission_key_values x ≡ row.now) }
         ensures read { IsRead transmission_key_forms row.now result }
-        ensures err { IfErr result (λ e. e ≡ Unread) }
+        ensures err { IfErr result (λ e. e ≡ Damaged) }
     {
         if row.column_count() != 2 {
-            return Err(RowFault::Unread);
+            return Err(RowFault::Damaged);
         }
         Ok(TransmissionKeyRow {
             sender: text(row, 0)?,

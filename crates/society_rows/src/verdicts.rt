@@ -1,7 +1,7 @@
 //! The table of verdicts.
 ghost use Rattle.std.specs.Prelude.{◌≡◌, IfOk, IfErr};
 ghost use Rattle.sqlite.specs.Values.{bound};
-ghost use Rattle.society_rows.specs.declared.fault.RowFault.TheVariants.{Unread};
+ghost use Rattle.society_rows.specs.declared.fault.RowFault.TheVariants.{Damaged};
 ghost use Rattle.society_rows.specs.Forms.{IsRead, verdict_forms};
 ghost use Rattle.society_rows.specs.Layout.{verdicts};
 ghost use Rattle.society_rows.specs.Rows.{verdict_values};
@@ -66,15 +66,15 @@ pub struct VerdictRow<'a> {
 }
 
 impl<'a> VerdictRow<'a> {
-    /// The row that these values are, in the order of the columns; else `Unread`.
+    /// The row that these values are, in the order of the columns; else `Damaged`.
     #[tactic(auto, using(crate::proofs::lemmas::changes::Columns::row_columns))]
     pub fn from_row(row: &'a Row) -> Result<VerdictRow<'a>, RowFault>
         ensures value { IfOk result (λ x. verdict_values x ≡ row.now) }
         ensures read { IsRead verdict_forms row.now result }
-        ensures err { IfErr result (λ e. e ≡ Unread) }
+        ensures err { IfErr result (λ e. e ≡ Damaged) }
     {
         if row.column_count() != 6 {
-            return Err(RowFault::Unread);
+            return Err(RowFault::Damaged);
         }
         Ok(VerdictRow {
             sender: text(row, 0)?,

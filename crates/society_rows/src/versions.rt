@@ -1,7 +1,7 @@
 //! The table of versions of works.
 ghost use Rattle.std.specs.Prelude.{◌≡◌, IfOk, IfErr};
 ghost use Rattle.sqlite.specs.Values.{bound};
-ghost use Rattle.society_rows.specs.declared.fault.RowFault.TheVariants.{Unread};
+ghost use Rattle.society_rows.specs.declared.fault.RowFault.TheVariants.{Damaged};
 ghost use Rattle.society_rows.specs.Forms.{IsRead, version_forms};
 ghost use Rattle.society_rows.specs.Layout.{versions};
 ghost use Rattle.society_rows.specs.Rows.{version_values};
@@ -70,15 +70,15 @@ pub struct VersionRow<'a> {
 }
 
 impl<'a> VersionRow<'a> {
-    /// The row that these values are, in the order of the columns; else `Unread`.
+    /// The row that these values are, in the order of the columns; else `Damaged`.
     #[tactic(auto, using(crate::proofs::lemmas::changes::Columns::row_columns))]
     pub fn from_row(row: &'a Row) -> Result<VersionRow<'a>, RowFault>
         ensures value { IfOk result (λ x. version_values x ≡ row.now) }
         ensures read { IsRead version_forms row.now result }
-        ensures err { IfErr result (λ e. e ≡ Unread) }
+        ensures err { IfErr result (λ e. e ≡ Damaged) }
     {
         if row.column_count() != 6 {
-            return Err(RowFault::Unread);
+            return Err(RowFault::Damaged);
         }
         Ok(VersionRow {
             sender: text(row, 0)?,

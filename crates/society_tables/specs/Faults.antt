@@ -3,13 +3,13 @@ use Rattle.std.specs.Prelude.{ℕ, ◌+◌, ◌≡◌, Result, Ok, Err}
 use Rattle.society_core.specs.declared.store.StoreFault.{StoreFault}
 use Rattle.society_core.specs.declared.store.StoreFault.TheVariants as store
 use Rattle.society_rows.specs.declared.fault.RowFault.{RowFault}
-use Rattle.society_rows.specs.declared.fault.RowFault.TheVariants.{Memory, Overflow, Refused, Schema, Unread}
+use Rattle.society_rows.specs.declared.fault.RowFault.TheVariants.{Memory, Overflow, Refused, Schema, Damaged}
 
 -- want of memory, or else that the medium failed
 abbrev pub store_fault : RowFault → StoreFault
 store_fault Memory = store.Memory
 store_fault Schema = store.Refused
-store_fault Unread = store.Refused
+store_fault Damaged = store.Refused
 store_fault Overflow = store.Refused
 store_fault (Refused error) = store.Refused
 
@@ -17,7 +17,7 @@ store_fault (Refused error) = store.Refused
 abbrev pub counted : RowFault → ℕ → ℕ
 counted Memory failures = failures
 counted Schema failures = failures + 1
-counted Unread failures = failures + 1
+counted Damaged failures = failures + 1
 counted Overflow failures = failures + 1
 counted (Refused error) failures = failures + 1
 

@@ -4,9 +4,10 @@ use crate::reads::tell_rows;
 use crate::statements::tell_statement;
 use crate::told::{asked, compare, done, words};
 use crate::writes::{told_result, write};
-use book_audit::{AuditFault, audit};
+use book_audit::audit;
 use book_derivation::derive;
 use share_rules::Office;
+use society_rows::RowFault;
 use sqlite::{Alter, Connection, Transaction};
 use std::alloc::Global;
 use std::io;
@@ -16,11 +17,11 @@ use test_sheets::{Sheet, first_word};
 // What is done over a store is done over any, and with no clause: over a store by its name each call takes a minute to prove.
 
 /// Tells what an audit, or a derivation, found.
-fn told_audit(alloc: Global, found: Result<(), AuditFault>) -> Option<String> {
+fn told_audit(alloc: Global, found: Result<(), RowFault>) -> Option<String> {
     match found {
         Ok(()) => words(alloc, "sound"),
-        Err(AuditFault::Damaged) => words(alloc, "damaged"),
-        Err(AuditFault::Memory | AuditFault::Store) => words(alloc, "not read"),
+        Err(RowFault::Damaged | RowFault::Schema) => words(alloc, "damaged"),
+        Err(_) => words(alloc, "not read"),
     }
 }
 

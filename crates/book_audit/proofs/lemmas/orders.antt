@@ -1,5 +1,4 @@
 pub mod Closings
-pub mod Judging
 pub mod KnownRows
 pub mod Lines
 pub mod OrdersAgain

@@ -1,22 +1,23 @@
 -- Writes of what is derived, each to one table.
-use Rattle.std.proofs.Common.{◌≡◌, ◌≢◌, ◌≤◌, ◌++◌, Bool, true, false, List, IsPermutation, Result, Ok, Err, IfErr, IfOk, OnOk, arith, cond, refl, subst, sym, drop, take}
+use Rattle.std.proofs.Common.{◌≡◌, ◌≢◌, ◌≤◌, ◌++◌, Bool, true, false, List, IsPermutation, Result, Ok, Err, IfErr, IfOk, arith, cond, refl, subst, sym, drop, take}
 use Rattle.std.specs.List.{AllByRecursion}
 use Rattle.std.specs.Result.{IsErrAnd}
 use Rattle.sqlite.specs.Effect.{Database}
+use Rattle.sqlite.specs.declared.error.Error.{Error}
 use Rattle.sqlite.specs.State.{State}
 use Rattle.sqlite_schema.specs.declared.schema.Table.{Table}
 use Rattle.sqlite_trees.specs.Tree.{Trees}
 use Rattle.sqlite_value.specs.Order.{Row}
 use Rattle.society_rows.specs.Layout as layout
 use Rattle.society_rows.specs.Layout.{all_tables, written_out}
-use Rattle.society_rows.specs.Effects.{BlamesMedium, Writes}
+use Rattle.society_rows.specs.Effects.{BlamesMedium, FaultSays, MayFail, TellsOfMedium, Writes}
 use Rattle.society_rows.specs.Faults.{is_of_medium}
 use Rattle.society_rows.specs.Stored.{Adds, AreNumbered, HasLayout, KeepsOthers, Puts, put_over, rows_in}
 use Rattle.society_rows.specs.declared.fault.RowFault.{RowFault}
 use Rattle.society_book.proofs.lemmas.rows_alike.KeptTables.{KeptBut, both_of}
-use Rattle.book_audit.specs.Examining.{AuditFaultSays, Never}
-use Rattle.book_audit.specs.declared.audit_fault.AuditFault.{AuditFault}
-use Rattle.book_audit.specs.declared.audit_fault.AuditFault.TheVariants as audit
+use Rattle.society_rows.specs.declared.fault.RowFault.TheVariants as row
+use Rattle.society_book.proofs.lemmas.together.StepLemmas.{does_also, does_of}
+use Rattle.society_book.specs.Steps.{Does, Never}
 use Rattle.book_derivation.specs.Deriving.{Derives, KeepsOwn}
 use Rattle.book_derivation.specs.Writing.{writing_fault_by}
 
@@ -55,41 +56,46 @@ keeps_own table old new derived others = record {
 
 -- ---- a write, and what its failure is told as
 
-pub derives_write : (old new : State) (r : Result (Unit {0}) RowFault) (done : Result (Unit {0}) AuditFault) (Change : Database → Database → Type 0) (Says : Trees → Trees → Type 0)
+-- it says that the medium may have failed, or nothing
+pub says_writing : (Wrong : Trees → Type 0) (old new : State) (fault e : RowFault) → (is_of_medium fault ≡ true → MayFail old new) → e ≡ writing_fault_by fault → FaultSays Wrong old new e
+says_writing Wrong old new fault e blamed is = subst (FaultSays Wrong old new) (sym is) (by_fault fault blamed)
+  where
+    by_case : (error : Error) (t : Bool) → (t ≡ true → MayFail old new) → FaultSays Wrong old new (cond t (row.Refused error) row.Memory)
+    by_case error true may = may refl
+    by_case error false may = tt
+
+    by_fault : (f : RowFault) → (is_of_medium f ≡ true → MayFail old new) → FaultSays Wrong old new (writing_fault_by f)
+    by_fault row.Memory may = tt
+    by_fault row.Schema may = tt
+    by_fault row.Damaged may = tt
+    by_fault row.Overflow may = tt
+    by_fault (row.Refused error) may = by_case error (is_of_medium (row.Refused error)) may
+
+pub derives_write : (old new : State) (r done : Result (Unit {0}) RowFault) (Change : Database → Database → Type 0) (Says : Trees → Trees → Type 0)
     → Writes old new r Change → BlamesMedium old new r
     → IfOk done (λ _. r ≡ Ok tt) → IfErr done (λ e. IsErrAnd r (λ fault. e ≡ writing_fault_by fault))
     → ((d e : Database) → Change d e → HasLayout e × KeepsOwn d.trees e.trees × Says d.trees e.trees)
     → Derives Never old new done (λ before after _. Says before after)
 derives_write old new r done Change Says writes blamed went failed follows = record {
-  says = λ clean inside has. says done went (writes.change clean inside has);
-  inside = λ clean inside. stays done went (writes.inside clean inside);
-  kept = writes.kept;
-  survives = writes.survives;
-  faults = λ clean inside has. errs done r failed (blamed clean inside has);
+  does = does_also old new done (λ before after _. Change before after) (λ before after _. KeepsOwn before.trees after.trees × Says before.trees after.trees) (retold done went (does_of old new r Change writes (λ d e made. (follows d e made).0)))
+      (λ x made. let it = follows old.now new.now made in (it.1, it.2));
+  faults = λ clean inside has. errs done failed (blamed clean inside has);
 }
   where
-    says : (z : Result (Unit {0}) AuditFault) → IfOk z (λ _. r ≡ Ok tt) → OnOk r (Change old.now new.now) → IfOk z (λ _. HasLayout new.now × KeepsOwn old.now.trees new.now.trees × Says old.now.trees new.now.trees)
-    says (Ok x) is change = follows old.now new.now (subst (λ (y : Result (Unit {0}) RowFault). OnOk y (Change old.now new.now)) is change)
-    says (Err e) is change = tt
+    retold : (z : Result (Unit {0}) RowFault) → IfOk z (λ _. r ≡ Ok tt) → Does old new r (λ before after _. Change before after) → Does old new z (λ before after _. Change before after)
+    retold (Ok x) is first = subst (λ (y : Result (Unit {0}) RowFault). Does old new y (λ before after _. Change before after)) is first
+    retold (Err e) is first = record { says = λ clean inside has. tt; layout = λ clean inside has. tt; inside = λ clean inside. tt; kept = first.kept; survives = first.survives }
 
-    stays : (z : Result (Unit {0}) AuditFault) → IfOk z (λ _. r ≡ Ok tt) → OnOk r (new.in_transaction ≡ true) → OnOk z (new.in_transaction ≡ true)
-    stays (Ok x) is h = subst (λ (y : Result (Unit {0}) RowFault). OnOk y (new.in_transaction ≡ true)) is h
-    stays (Err e) is h = tt
+    told : (e : RowFault) (y : Result (Unit {0}) RowFault) → IsErrAnd y (λ fault. e ≡ writing_fault_by fault) → TellsOfMedium old new y → FaultSays Never old new e
+    told e (Ok x) is may = absurd is
+    told e (Err fault) is may = says_writing Never old new fault e may is
 
-    by_kind : (b : Bool) → (b ≡ true → AuditFaultSays Never old new audit.Store) → AuditFaultSays Never old new (cond b audit.Store audit.Memory)
-    by_kind true may = may refl
-    by_kind false may = tt
-
-    told : (e : AuditFault) (fault : RowFault) → e ≡ writing_fault_by fault → (is_of_medium fault ≡ true → AuditFaultSays Never old new audit.Store) → AuditFaultSays Never old new e
-    told e fault is may = subst (AuditFaultSays Never old new) (sym is) (by_kind (is_of_medium fault) may)
-
-    errs : (z : Result (Unit {0}) AuditFault) (y : Result (Unit {0}) RowFault) → IfErr z (λ e. IsErrAnd y (λ fault. e ≡ writing_fault_by fault)) → IfErr y (λ fault. is_of_medium fault ≡ true → AuditFaultSays Never old new audit.Store) → IfErr z (AuditFaultSays Never old new)
-    errs (Ok x) y h may = tt
-    errs (Err e) (Ok x) h may = absurd h
-    errs (Err e) (Err fault) h may = told e fault h may
+    errs : (z : Result (Unit {0}) RowFault) → IfErr z (λ e. IsErrAnd r (λ fault. e ≡ writing_fault_by fault)) → TellsOfMedium old new r → IfErr z (FaultSays Never old new)
+    errs (Ok x) is may = tt
+    errs (Err e) is may = told e r is may
 
 -- rows that are added
-pub derives_adds : (table : Table) (more : List Row) (old new : State) (r : Result (Unit {0}) RowFault) (done : Result (Unit {0}) AuditFault)
+pub derives_adds : (table : Table) (more : List Row) (old new : State) (r done : Result (Unit {0}) RowFault)
     → IsDerived table → Writes old new r (Adds table more) → BlamesMedium old new r → IfOk done (λ _. r ≡ Ok tt) → IfErr done (λ e. IsErrAnd r (λ fault. e ≡ writing_fault_by fault))
     → Derives Never old new done (λ before after _. AddsRows table more before after)
 derives_adds table more old new r done derived writes blamed went failed =
@@ -97,7 +103,7 @@ derives_adds table more old new r done derived writes blamed went failed =
     (λ d e adds. (adds.layout, keeps_own table d.trees e.trees derived adds.others, record { rows = adds.rows; numbered = adds.numbered; others = adds.others }))
 
 -- a row that is put
-pub derives_puts : (table : Table) (row : Row) (old new : State) (r : Result (Unit {0}) RowFault) (done : Result (Unit {0}) AuditFault)
+pub derives_puts : (table : Table) (row : Row) (old new : State) (r done : Result (Unit {0}) RowFault)
     → IsDerived table → Writes old new r (Puts table row) → BlamesMedium old new r → IfOk done (λ _. r ≡ Ok tt) → IfErr done (λ e. IsErrAnd r (λ fault. e ≡ writing_fault_by fault))
     → Derives Never old new done (λ before after _. PutsRow table row before after)
 derives_puts table row old new r done derived writes blamed went failed =

@@ -97,7 +97,7 @@ module _ (b : Book) (s : List ℕ) (db : Trees) (sound : IsSound b) (has : HasRo
 -- why a run was not gone over up to its gap
 pub run_errs : (s : List ℕ) (n : ℕ) (begun : RunValue) (old new : State) (r : Result (Unit {0}) RowFault) → n < 2 ^ 32
     → IfErr r (StopsRun take_row (λ _ found fault. Blames (IsRightSent found → ⊥) fault) old new s n begun)
-    → ErrsByMedium old new r ⊎ IfErr r (λ fault. RefusesRow take_row (λ _ found fault. Blames (IsRightSent found → ⊥) fault) (AreFirstOfRun old new s n) begun fault ⊎ ((fault ≡ row.Unread) × IsNoRun old new s n))
+    → ErrsByMedium old new r ⊎ IfErr r (λ fault. RefusesRow take_row (λ _ found fault. Blames (IsRightSent found → ⊥) fault) (AreFirstOfRun old new s n) begun fault ⊎ ((fault ≡ row.Damaged) × IsNoRun old new s n))
     → Errs KeepsUnsound old new r
 run_errs s n begun old new (Ok x) low told medium clean inside has = tt
 run_errs s n begun old new (Err fault) low told medium clean inside has = by_why told.why medium
@@ -114,21 +114,21 @@ run_errs s n begun old new (Err fault) low told medium clean inside has = by_why
         by_fault : (f : RowFault) → Blames (IsRightSent refuses.row → ⊥) f → FaultSays KeepsUnsound old new f
         by_fault row.Memory h = tt
         by_fault row.Schema h = unsound h
-        by_fault row.Unread h = unsound h
+        by_fault row.Damaged h = unsound h
         by_fault row.Overflow h = tt
         by_fault (row.Refused error) h = absurd h
 
-    stopped : (fault ≡ row.Unread) × IsNoRun old new s n → FaultSays KeepsUnsound old new fault
+    stopped : (fault ≡ row.Damaged) × IsNoRun old new s n → FaultSays KeepsUnsound old new fault
     stopped both = subst (FaultSays KeepsUnsound old new) (sym both.0) (λ b sound keeps. elim (both.1 clean has) [
       | inl doubled ↦ no_doubled b s old.now.trees sound keeps.transmissions n doubled
       | inr full ↦ no_full b s old.now.trees sound keeps.transmissions n low full
     ])
 
-    others : Refuses ⊎ ((fault ≡ row.Unread) × IsNoRun old new s n) → FaultSays KeepsUnsound old new fault
+    others : Refuses ⊎ ((fault ≡ row.Damaged) × IsNoRun old new s n) → FaultSays KeepsUnsound old new fault
     others (inl refuses) = refused refuses
     others (inr both) = stopped both
 
-    by_why : (HasCleanDisk new → HasLayout old.now → IsFailure fault) ⊎ (Refuses ⊎ ((fault ≡ row.Unread) × IsNoRun old new s n)) → ErrsByMedium {X = Unit {0}} old new (Err fault) ⊎ (Refuses ⊎ ((fault ≡ row.Unread) × IsNoRun old new s n)) → FaultSays KeepsUnsound old new fault
+    by_why : (HasCleanDisk new → HasLayout old.now → IsFailure fault) ⊎ (Refuses ⊎ ((fault ≡ row.Damaged) × IsNoRun old new s n)) → ErrsByMedium {X = Unit {0}} old new (Err fault) ⊎ (Refuses ⊎ ((fault ≡ row.Damaged) × IsNoRun old new s n)) → FaultSays KeepsUnsound old new fault
     by_why (inr why) by_medium = others why
     by_why (inl fails) (inr why) = others why
     by_why (inl fails) (inl by_medium) = errs_of {X = Unit {0}} KeepsUnsound old new (Err fault) fails by_medium clean inside has

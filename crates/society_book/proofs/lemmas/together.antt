@@ -2,3 +2,4 @@
 pub mod StepLemmas
 pub mod AloneLemmas
 pub mod ErrLemmas
+pub mod JudgedLemmas

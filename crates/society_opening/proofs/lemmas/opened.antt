@@ -3,6 +3,5 @@ pub mod Passing
 pub mod Failing
 pub mod OpenTold
 pub mod OpenedLemmas
-pub mod Examined
 pub mod AuditedLemmas
 pub mod Reopening

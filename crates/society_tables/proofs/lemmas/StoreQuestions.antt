@@ -31,7 +31,7 @@ use Rattle.society_core.specs.declared.store.Payment.{Payment}
 use Rattle.society_core.specs.declared.store.NumberPlace.{NumberPlace}
 use Rattle.society_core.specs.declared.store.StoreFault.{StoreFault}
 use Rattle.society_rows.specs.declared.fault.RowFault.{RowFault}
-use Rattle.society_rows.specs.declared.fault.RowFault.TheVariants.{Memory, Overflow, Refused, Schema, Unread}
+use Rattle.society_rows.specs.declared.fault.RowFault.TheVariants.{Memory, Overflow, Refused, Schema, Damaged}
 use Rattle.society_book.specs.BookRows.{book_of}
 use Rattle.society_tables.specs.Faults.{Told, counted, store_fault}
 use Rattle.society_rows.specs.Questions as Rows
@@ -58,7 +58,7 @@ ok_alone (Err e) P alone = λ x y. refl
 counts_on : (fault : RowFault) (f g : ℕ) → g ≡ counted fault f → f ≤ g
 counts_on Memory f g e = omega (e, arith)
 counts_on Schema f g e = omega (e, arith)
-counts_on Unread f g e = omega (e, arith)
+counts_on Damaged f g e = omega (e, arith)
 counts_on Overflow f g e = omega (e, arith)
 counts_on (Refused error) f g e = omega (e, arith)
 
@@ -69,7 +69,7 @@ told_on (Err fault) result f g told = counts_on fault f g told.1
 fault_cause : (o : Office) (old new : State) (fault : RowFault) (f g : ℕ) → g ≡ counted fault f → HasCause (tables_state o old f) (tables_state o new g) (store_fault fault)
 fault_cause o old new Memory f g e = tt
 fault_cause o old new Schema f g e = inl (omega (e, arith))
-fault_cause o old new Unread f g e = inl (omega (e, arith))
+fault_cause o old new Damaged f g e = inl (omega (e, arith))
 fault_cause o old new Overflow f g e = inl (omega (e, arith))
 fault_cause o old new (Refused error) f g e = inl (omega (e, arith))
 

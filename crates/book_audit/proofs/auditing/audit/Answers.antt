@@ -7,10 +7,10 @@ use Rattle.society_core.proofs.lemmas.Books.{sound_order}
 use Rattle.book_audit.specs.Audited.{IsNumbered, IsRegistered}
 use Rattle.book_audit.specs.Auditing.{AreLinesOf, AreSenders}
 use Rattle.book_audit.specs.Examining.{HoldsNot}
+use Rattle.society_book.proofs.lemmas.together.JudgedLemmas.{examines_not, examines_then}
 use Rattle.book_audit.specs.OwnRows.{LacksOwn}
 use Rattle.book_audit.specs.LineSteps.{FindsLines}
 use Rattle.book_audit.specs.Paying.{CompletesBook, unpaid}
-use Rattle.book_audit.proofs.lemmas.Examinations.{examines_not, examines_then}
 use Rattle.book_audit.proofs.lemmas.gathered.EntryBooks.{keeps_ends, keeps_entries, sound_entries}
 use Rattle.book_audit.proofs.lemmas.gathered.EntrySenders.{senders_of_entries}
 use Rattle.book_audit.proofs.lemmas.gathered.SenderLines.{all_fronts, all_recordings, all_verdicts, all_versions}

@@ -3,8 +3,8 @@ use Rattle.sqlite.specs.Held.{state}
 use Rattle.society_rows.specs.Listings.{ListsAll}
 use Rattle.society_rows.specs.declared.tables.TableName.TheVariants.{Balances}
 use Rattle.pool_split.specs.declared.claim.Credit.{Credit}
-use Rattle.book_audit.specs.Examining.{Never}
-use Rattle.book_audit.proofs.lemmas.Examinations.{examines_as}
+use Rattle.society_book.proofs.lemmas.together.JudgedLemmas.{examines_as}
+use Rattle.society_book.specs.Steps.{Never}
 use Rattle.book_audit.specs.Balances.{AreTotalsOf, HasBalances}
 use Rattle.book_audit.proofs.lemmas.balances.Agreement.{agreed, judged}
 use Rattle.book_audit.proofs.balances.balances_agree.Goals as goal

@@ -6,9 +6,10 @@ use Rattle.sqlite.specs.Held.{state}
 use Rattle.sqlite_value.specs.Order.{Row}
 use Rattle.society_rows.specs.FirstColumns.{ListsFirstColumn}
 use Rattle.society_rows.specs.declared.derived_tables.DerivedTable.TheVariants.{Credits}
-use Rattle.book_audit.specs.Examining.{Never, IsNot}
-use Rattle.book_audit.specs.declared.audit_fault.AuditFault.TheVariants.{Damaged}
-use Rattle.book_audit.proofs.lemmas.Examinations.{examines_as}
+use Rattle.book_audit.specs.Examining.{IsNot}
+use Rattle.society_book.proofs.lemmas.together.JudgedLemmas.{examines_as}
+use Rattle.society_book.specs.Steps.{Never}
+use Rattle.society_rows.specs.declared.fault.RowFault.TheVariants.{Damaged}
 use Rattle.book_audit.specs.Credits.{AreCreditsOfPools, IsCreditOf}
 use Rattle.book_audit.proofs.lemmas.credits.FirstColumns.{listed_these, these_listed}
 use Rattle.book_audit.proofs.credit_owners.has_no_stranger.Goals as goal

@@ -1,4 +1,5 @@
 use Rattle.book_audit.specs.Examining.{IsNot}
+use Rattle.society_book.proofs.lemmas.together.JudgedLemmas.{examines_as, examines_not, examines_then}
 use Rattle.std.proofs.Common.{◌≡◌, List, Ok, Vec, ap, refl, subst, sym, rules}
 use Rattle.std.specs.declared.alloc.Global.{Global}
 use Rattle.sqlite.specs.Held.{state}
@@ -7,7 +8,6 @@ use Rattle.pool_split.specs.Credits.{credits_together}
 use Rattle.pool_split.specs.declared.claim.Credit.{Credit}
 use Rattle.society_closings.specs.Blamed.{CannotPayAmong}
 use Rattle.society_closings.specs.Closings.{PaysAmong}
-use Rattle.book_audit.proofs.lemmas.Examinations.{examines_as, examines_not, examines_then}
 use Rattle.book_audit.specs.Credits.{FindsCredits, HasCredits, HasNoPool}
 use Rattle.book_audit.specs.CreditSteps.{ListsOnly}
 use Rattle.book_audit.proofs.lemmas.credits.Finding.{has_pool, no_pool}

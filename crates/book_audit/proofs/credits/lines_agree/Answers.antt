@@ -6,10 +6,11 @@ use Rattle.sqlite_value.specs.Order.{Row}
 use Rattle.pool_split.specs.Credits.{credits_together}
 use Rattle.society_rows.specs.Questions.{RowsAnswer}
 use Rattle.society_rows.specs.declared.questions.Question.TheVariants.{Credits}
-use Rattle.book_audit.specs.Examining.{Never, IsNot}
-use Rattle.book_audit.specs.declared.audit_fault.AuditFault.TheVariants.{Damaged}
-use Rattle.book_audit.proofs.lemmas.Examinations.{examines_as}
-use Rattle.book_audit.proofs.lemmas.orders.Judging.{judges_on, no_answer}
+use Rattle.book_audit.specs.Examining.{IsNot}
+use Rattle.society_book.proofs.lemmas.together.ErrLemmas.{blames_on, no_answer}
+use Rattle.society_book.proofs.lemmas.together.JudgedLemmas.{examines_as}
+use Rattle.society_book.specs.Steps.{Never}
+use Rattle.society_rows.specs.declared.fault.RowFault.TheVariants.{Damaged}
 use Rattle.book_audit.specs.Credits.{HasCredits}
 use Rattle.book_audit.specs.CreditSteps.{ListsOnly}
 use Rattle.book_audit.proofs.credits.lines_agree.Goals as goal
@@ -26,7 +27,7 @@ returns-in_err-are_lines g c = record {
         let old = state g.S.Store c.args.tx.now.conn.now in
         examines_as {X = Vec Row Global} {Y = Unit {0}} Never (IsNot (ListsOnly pool credits)) old (state g.S.Store c.ask.new.tx.conn.now) rows r (λ db found. RowsAnswer (Credits pool) db found.items) (λ db _. HasCredits pool credits db) c.in_ok-rows.ensures.examined.says
         (λ lists. no_answer r _ _ c.from_residual-in_err-are_lines.ensures.1)
-        (λ lists. judges_on r c.in_err-are_lines.field-0.0 ⊥ _ c.from_residual-in_err-are_lines.ensures.1 c.in_err-are_lines.ensures.judged (λ never. absurd never));
+        (λ lists. blames_on r c.in_err-are_lines.field-0.0 ⊥ _ c.from_residual-in_err-are_lines.ensures.1 c.in_err-are_lines.ensures.judged (λ never. absurd never));
   };
 }
 

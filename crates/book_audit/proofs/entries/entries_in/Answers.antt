@@ -2,8 +2,8 @@ use Rattle.std.proofs.Common.{Err, List, Ok, subst, sym, rules}
 use Rattle.sqlite.specs.Held.{state}
 use Rattle.sqlite_trees.specs.Tree.{Trees}
 use Rattle.society_core.specs.declared.transmission_key.TransmissionKey.{TransmissionKey}
-use Rattle.book_audit.proofs.lemmas.Examinations.{examines_as, examines_not, examines_then}
-use Rattle.book_audit.specs.Examining.{Examines}
+use Rattle.society_book.proofs.lemmas.together.JudgedLemmas.{examines_as, examines_not, examines_then}
+use Rattle.society_book.specs.Steps.{Examines}
 use Rattle.book_audit.specs.OwnRows.{LacksOwn}
 use Rattle.book_audit.specs.Judging.{AreReported, AreRightLasts, AreSent, AreSentKeys, AreStated}
 use Rattle.book_audit.proofs.lemmas.entries.EntriesFound.{AreAllRight, all_found, all_wrong, none_reported, none_sent, none_stated}

@@ -2,9 +2,9 @@
 use Rattle.society_closings.specs.Closings.{row_of_account}
 use Rattle.std.proofs.Common.{◌≡◌, true, List, [], ◌∷◌, ap, refl, Result, Ok, Err, IfErr, IfOk, OnOk, filter, subst, sym, IsPermutation}
 use Rattle.std.proofs.lemmas.List.Sorted.{IsPermutation-sym}
-use Rattle.book_audit.specs.Examining.{Judges}
-use Rattle.book_audit.specs.declared.audit_fault.AuditFault.{AuditFault}
-use Rattle.book_audit.specs.declared.audit_fault.AuditFault.TheVariants as audit
+use Rattle.society_book.proofs.lemmas.together.ErrLemmas.{blames_where}
+use Rattle.society_book.specs.Errors.{Blames}
+use Rattle.society_rows.specs.declared.fault.RowFault.{RowFault}
 use Rattle.pool_split.specs.declared.claim.Credit.{Credit}
 use Rattle.sqlite_trees.specs.Tree.{Trees}
 use Rattle.sqlite_value.specs.Order.{Row}
@@ -35,15 +35,9 @@ module _ (totals : Totals) (db : Trees) (rows : List Row) (lists : ListsAll Bala
   as_listed credits comes has q =
       subst (λ (l : List Row). IsPermutation l (filter (is_named q) rows)) (sym (comes q)) (in_order (row_of_account credits) (rows_in layout.balances db) rows listed has q)
 
-  pub agreed : (r : Result (Unit {0}) AuditFault) → OnOk r (HasRows is_named (row_by_units totals.units) rows) → IfOk r (λ _. (credits : List Credit) → AreTotalsOf totals credits → HasBalances credits db)
+  pub agreed : (r : Result (Unit {0}) RowFault) → OnOk r (HasRows is_named (row_by_units totals.units) rows) → IfOk r (λ _. (credits : List Credit) → AreTotalsOf totals credits → HasBalances credits db)
   agreed (Ok x) has = in_table has
   agreed (Err e) has = tt
 
-  told : (fault : AuditFault) → Judges (HasRows is_named (row_by_units totals.units) rows → ⊥) fault → Judges ((credits : List Credit) → AreTotalsOf totals credits → HasBalances credits db → ⊥) fault
-  told audit.Memory judges = tt
-  told audit.Store judges = judges
-  told audit.Damaged judges = λ credits comes has. judges (as_listed credits comes has)
-
-  pub judged : (r : Result (Unit {0}) AuditFault) → IfErr r (Judges (HasRows is_named (row_by_units totals.units) rows → ⊥)) → IfErr r (Judges ((credits : List Credit) → AreTotalsOf totals credits → HasBalances credits db → ⊥))
-  judged (Ok x) judges = tt
-  judged (Err fault) judges = told fault judges
+  pub judged : (r : Result (Unit {0}) RowFault) → IfErr r (Blames (HasRows is_named (row_by_units totals.units) rows → ⊥)) → IfErr r (Blames ((credits : List Credit) → AreTotalsOf totals credits → HasBalances credits db → ⊥))
+  judged r blames = blames_where _ _ r blames (λ no credits comes has. no (as_listed credits comes has))

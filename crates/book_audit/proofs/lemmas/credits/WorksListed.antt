@@ -6,7 +6,7 @@ use Rattle.sqlite.specs.State.{State}
 use Rattle.sqlite_trees.proofs.ListLemmas.{all_weaker}
 use Rattle.sqlite_trees.specs.Tree.{Trees}
 use Rattle.society_book.specs.Sources.{HoldsWorks}
-use Rattle.society_book.specs.Steps.{Looks}
+use Rattle.society_book.specs.Steps.{Looks, Examines}
 use Rattle.society_core.specs.Book.{Book}
 use Rattle.society_closings.proofs.lemmas.cuts.CutLists.{lists_fewer}
 use Rattle.society_closings.specs.Blamed.{HoldNoWorks}
@@ -16,8 +16,7 @@ use Rattle.society_closings.specs.Weighing.{AreWorksWeighed}
 use Rattle.society_closings.specs.declared.pool_works.PoolWorks.{PoolWorks}
 use Rattle.society_closings.specs.declared.wanted.Wanted.{Wanted}
 use Rattle.society_closings.specs.declared.works_by_recording.WorksByRecording.{WorksByRecording}
-use Rattle.book_audit.proofs.lemmas.Examinations.{examines_looks, examines_then}
-use Rattle.book_audit.specs.Examining.{Examines}
+use Rattle.society_book.proofs.lemmas.together.JudgedLemmas.{examines_looks, examines_then}
 use Rattle.book_audit.specs.Paying.{CannotPayAny, ListsForAll, WantsAll, WantsOrder}
 use Rattle.book_audit.specs.declared.pool_orders.ClosedPool.{ClosedPool}
 

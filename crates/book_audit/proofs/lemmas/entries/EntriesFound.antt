@@ -13,13 +13,14 @@ use Rattle.society_rows.specs.Stored.{rows_in}
 use Rattle.society_book.specs.BookRows.{transmission_key_of}
 use Rattle.society_book.specs.Columns.{text_at}
 use Rattle.society_book.proofs.lemmas.rows_alike.BookLemmas.{one_ascent}
-use Rattle.book_audit.specs.Examining.{Judges}
+use Rattle.society_book.proofs.lemmas.together.ErrLemmas.{blames_more}
+use Rattle.society_book.specs.Errors.{Blames}
+use Rattle.society_rows.specs.declared.fault.RowFault.{RowFault}
 use Rattle.book_audit.specs.OwnRows.{LacksOwn}
-use Rattle.book_audit.specs.declared.audit_fault.AuditFault.{AuditFault}
 use Rattle.book_audit.specs.Entries.{AreEndsAbove, HoldsEntries, senders_in}
 use Rattle.book_audit.specs.Judging.{AreLasts, AreReported, AreRightLasts, AreSent, AreSentKeys, AreStated, AreUnder, last_stated}
 use Rattle.book_audit.proofs.lemmas.entries.OwnEntries.{own_reported, own_sent, own_stated, own_under}
-use Rattle.book_audit.proofs.lemmas.entries.StatedRows.{Last, ends_above, judges_where, stated_once}
+use Rattle.book_audit.proofs.lemmas.entries.StatedRows.{Last, ends_above, stated_once}
 
 -- tables whose rows may not stand in a book hold none
 pub none_sent : (db : Trees) → (AreSent db → ⊥) → LacksOwn db
@@ -56,7 +57,7 @@ module _ (db : Trees) (keys : List TransmissionKey) (lasts : List Last) where
       (IsPermutation-map (λ (last : Last). last.0.sender) lasts (map last_stated (rows_in layout.segment_ends db)) these)
 
   -- where no transmission is above the end of its segment, these are the senders of the database
-  pub all_found : (r : Result (Vec (List ℕ) Global) AuditFault) → AreAllRight db keys lasts → IfOk r (λ _. AreUnder keys lasts) → IfOk r (λ all. all.items ≡ ascending bytes_cmp (senders_sent ++ senders_stated))
+  pub all_found : (r : Result (Vec (List ℕ) Global) RowFault) → AreAllRight db keys lasts → IfOk r (λ _. AreUnder keys lasts) → IfOk r (λ all. all.items ≡ ascending bytes_cmp (senders_sent ++ senders_stated))
       → IfOk r (λ senders. HoldsEntries senders.items db × AreEndsAbove db)
   all_found (Err fault) right under senders = tt
   all_found (Ok all) right under senders = (
@@ -72,7 +73,7 @@ module _ (db : Trees) (keys : List TransmissionKey) (lasts : List Last) where
   )
 
   -- and else the database holds no book
-  pub all_wrong : (r : Result (Vec (List ℕ) Global) AuditFault) → AreAllRight db keys lasts → IfErr r (Judges (AreUnder keys lasts → ⊥)) → IfErr r (Judges (LacksOwn db))
+  pub all_wrong : (r : Result (Vec (List ℕ) Global) RowFault) → AreAllRight db keys lasts → IfErr r (Blames (AreUnder keys lasts → ⊥)) → IfErr r (Blames (LacksOwn db))
   all_wrong (Ok all) right judged = tt
   all_wrong (Err fault) right judged =
-      judges_where (AreUnder keys lasts → ⊥) (LacksOwn db) fault (λ wrong book holds. wrong (own_under book db holds keys lasts right.keys_are right.stated.these)) judged
+      blames_more (AreUnder keys lasts → ⊥) (LacksOwn db) fault (λ wrong book holds. wrong (own_under book db holds keys lasts right.keys_are right.stated.these)) judged

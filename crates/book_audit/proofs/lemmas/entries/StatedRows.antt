@@ -28,9 +28,9 @@ use Rattle.society_book.proofs.lemmas.rows_alike.BookLemmas.{segments_tie}
 use Rattle.society_book.proofs.lemmas.rows_alike.EndRows.{same_segment_is}
 use Rattle.society_book.proofs.lemmas.rows_alike.KeyRows.{both_same}
 use Rattle.society_book.proofs.lemmas.rows_alike.RowLemmas.{one_else}
-use Rattle.book_audit.specs.Examining.{Judges}
-use Rattle.book_audit.specs.declared.audit_fault.AuditFault.{AuditFault}
-use Rattle.book_audit.specs.declared.audit_fault.AuditFault.TheVariants as audit
+use Rattle.society_book.proofs.lemmas.together.ErrLemmas.{blames_more}
+use Rattle.society_book.specs.Errors.{Blames}
+use Rattle.society_rows.specs.declared.fault.RowFault.{RowFault}
 use Rattle.book_audit.specs.Entries.{AreEndsAbove, IsAbove, is_right_stated}
 use Rattle.book_audit.specs.Judging.{AreLasts, AreOnce, AreRightLasts, AreSentKeys, AreStated, AreUnder, HasLasts, IsUnder, is_under, is_up_to, last_stated, lasts_of, pair_of_some}
 use Rattle.book_audit.proofs.lemmas.entries.KeyedRows.{IsIn, all_members, all_pass, in_all}
@@ -211,12 +211,6 @@ module _ (db : Trees) (lasts : List Last) (these : AreLasts db lasts) where
           (all_unmap (IsUnder key) last_stated rows (all-permutation (IsUnder key) lasts (map last_stated rows) these (there (text_at 0 w) n x is)))
           (ap (segment_key (text_at 0 w)) (sym same)))
 
--- what is worked out of less
-pub judges_where : (First Wrong : Type 0) (fault : AuditFault) → (First → Wrong) → Judges First fault → Judges Wrong fault
-judges_where First Wrong audit.Memory also judges = tt
-judges_where First Wrong audit.Store also judges = judges
-judges_where First Wrong audit.Damaged also judges = also judges
-
 module _ (db : Trees) (rows : List Row) (lists : ListsAll name.SegmentEnds db rows) where
   abbrev AreRight : List Row → Type 0
   AreRight rs = AllByRecursion (λ row. is_right_stated row ≡ true) rs
@@ -225,7 +219,7 @@ module _ (db : Trees) (rows : List Row) (lists : ListsAll name.SegmentEnds db ro
   same_ends = subst (λ (l : List Row). IsPermutation l rows) (all_pass (rows_in layout.segment_ends db)) lists.rows
 
   -- the last numbers of the rows of a database
-  pub right_lasts : (r : Result (Vec Last Global) AuditFault) → IfOk r (λ _. AreRight rows) → IfOk r (λ lasts. lasts.items ≡ map last_stated rows) → IfOk r (λ lasts. AreRightLasts db lasts.items)
+  pub right_lasts : (r : Result (Vec Last Global) RowFault) → IfOk r (λ _. AreRight rows) → IfOk r (λ lasts. lasts.items ≡ map last_stated rows) → IfOk r (λ lasts. AreRightLasts db lasts.items)
   right_lasts (Err fault) right these = tt
   right_lasts (Ok lasts) right these = record {
     right = all-permutation (λ row. is_right_stated row ≡ true) rows (rows_in layout.segment_ends db) (IsPermutation-sym (rows_in layout.segment_ends db) rows same_ends) right;
@@ -233,6 +227,6 @@ module _ (db : Trees) (rows : List Row) (lists : ListsAll name.SegmentEnds db ro
         (IsPermutation-sym (map last_stated (rows_in layout.segment_ends db)) (map last_stated rows) (IsPermutation-map last_stated (rows_in layout.segment_ends db) rows same_ends));
   }
 
-  pub wrong_lasts : (r : Result (Vec Last Global) AuditFault) → IfErr r (Judges (AreRight rows → ⊥)) → IfErr r (Judges (AreStated db → ⊥))
+  pub wrong_lasts : (r : Result (Vec Last Global) RowFault) → IfErr r (Blames (AreRight rows → ⊥)) → IfErr r (Blames (AreStated db → ⊥))
   wrong_lasts (Ok lasts) judged = tt
-  wrong_lasts (Err fault) judged = judges_where (AreRight rows → ⊥) (AreStated db → ⊥) fault (λ wrong stated. wrong (all-permutation (λ row. is_right_stated row ≡ true) (rows_in layout.segment_ends db) rows same_ends stated.right)) judged
+  wrong_lasts (Err fault) judged = blames_more (AreRight rows → ⊥) (AreStated db → ⊥) fault (λ wrong stated. wrong (all-permutation (λ row. is_right_stated row ≡ true) (rows_in layout.segment_ends db) rows same_ends stated.right)) judged

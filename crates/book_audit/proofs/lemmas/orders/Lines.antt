@@ -1,5 +1,5 @@
 -- What the rows of senders' fronts and of returns show.
-use Rattle.std.proofs.Common.{◌≡◌, ◌∙◌, ◌<◌, ◌^◌, ◌==◌, inl, inr, ℕ, pos, Bool, true, false, cond, List, [], ◌∷◌, Option, Some, None, is_some, length, map, take, refl, ap, ap₂, arith, subst, sym}
+use Rattle.std.proofs.Common.{◌≡◌, ◌∙◌, ◌==◌, inl, inr, ℕ, pos, Bool, true, false, cond, List, [], ◌∷◌, Option, Some, None, is_some, length, map, take, refl, ap, ap₂, subst, sym}
 use Rattle.std.proofs.lemmas.Bool.{false≢true}
 use Rattle.std.proofs.lemmas.Map.Text.{is_eq-slice_cmp}
 use Rattle.std.proofs.lemmas.Slice.Eq.{bytes_eq-Decides}
@@ -11,7 +11,7 @@ use Rattle.sqlite_trees.specs.Tree.{Trees}
 use Rattle.sqlite_value.specs.Order.{Row}
 use Rattle.sqlite_value.specs.declared.value.Value.TheVariants.{Int, Text}
 use Rattle.sender_segments.specs.Ways.{IsWithinEnd, StatedEnds, leads_to, numbers_up_to}
-use Rattle.society_core.proofs.lemmas.Books.{front_fits, order_fits, sound_front, sound_order}
+use Rattle.society_core.proofs.lemmas.Books.{front_fits, order_fits, sound_order}
 use Rattle.society_core.proofs.lemmas.Fronts.{front_led}
 use Rattle.society_core.proofs.lemmas.LineNumbers.{in_line_is}
 use Rattle.society_core.specs.Book.{Book, ends_of, front, is_applied, is_one_of, return_at}
@@ -43,10 +43,6 @@ front_there o b db holds s found lists =
     shows : (x : Bool) → knows_sender b s ≡ x → found ≡ cond x ((Text s ∷ Int (pos (front b s)) ∷ Int (pos (works_to o b s)) ∷ []) ∷ []) [] → ShowFront (front b s) found
     shows true is e = inr (s, pos (works_to o b s), e)
     shows false is e = inl (e, front_of_nobody b s is)
-
--- it is a number of 32 bits
-pub small_front : (o : Office) (b : Book) (db : Trees) → HoldsLines o b db → (s : List ℕ) → front b s < 2 ^ 32
-small_front o b db holds s = let high = sound_front b s holds.sound in omega (high, arith)
 
 -- whether a number is in its sender's line is told by the ends and the front
 pub line_told : (o : Office) (b : Book) (db : Trees) → HoldsLines o b db → (key : TransmissionKey) (ends : List StatedEnd) (n : ℕ) (t : Bool) → ReadsEnds key.sender db ends → n ≡ front b key.sender

@@ -6,7 +6,7 @@ use Rattle.sqlite_keyed.proofs.ListLemmas.{all-append}
 use Rattle.sqlite_trees.proofs.ListLemmas.{all-get_or}
 use Rattle.society_book.specs.BookRows.{book_of}
 use Rattle.society_book.specs.DerivedRows.{knows_sender}
-use Rattle.book_audit.proofs.lemmas.Examinations.{examines_also, examines_not, examines_nothing, examines_then}
+use Rattle.society_book.proofs.lemmas.together.JudgedLemmas.{examines_also, examines_not, examines_nothing, examines_then}
 use Rattle.book_audit.specs.Auditing.{HasLine}
 use Rattle.book_audit.specs.LineSteps.{DeniesLine, DeniesLines, FindsLine, FindsLines}
 use Rattle.book_audit.proofs.lines.each_agrees.Goals as goal

@@ -1,11 +1,11 @@
 use Rattle.std.proofs.Common.{rules}
 use Rattle.book_audit.specs.Examining.{IsNot}
+use Rattle.society_book.proofs.lemmas.together.JudgedLemmas.{examines_then}
 use Rattle.sqlite.specs.Held.{state}
 use Rattle.society_core.proofs.lemmas.Books.{sound_order}
 use Rattle.society_book.specs.BookRows.{book_of}
 use Rattle.society_arrivals.specs.Going.{IsWholeIn}
 use Rattle.society_book.specs.RightRows.{KeepsUnsound}
-use Rattle.book_audit.proofs.lemmas.Examinations.{examines_then}
 use Rattle.book_audit.specs.Auditing.{HasRun}
 use Rattle.book_audit.specs.LineSteps.{DeniesLine, FindsLine}
 use Rattle.book_audit.proofs.lemmas.lines.LineAudits.{has_line, line_has}

@@ -1,6 +1,6 @@
 use Rattle.std.proofs.Common.{rules}
 use Rattle.sqlite.specs.Held.{state}
-use Rattle.book_audit.proofs.lemmas.Examinations.{examines_then}
+use Rattle.society_book.proofs.lemmas.together.JudgedLemmas.{examines_then}
 use Rattle.book_audit.specs.Auditing.{AreLinesOf}
 use Rattle.book_audit.specs.LineSteps.{DeniesLines, FindsLines}
 use Rattle.book_audit.proofs.lines.lines_agree.Goals as goal

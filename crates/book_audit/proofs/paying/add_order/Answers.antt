@@ -1,6 +1,6 @@
 use Rattle.std.proofs.Common.{Ok, rules}
 use Rattle.sqlite.specs.Held.{state}
-use Rattle.book_audit.proofs.lemmas.Examinations.{examines_as, examines_looks}
+use Rattle.society_book.proofs.lemmas.together.JudgedLemmas.{examines_as, examines_looks}
 use Rattle.society_closings.proofs.lemmas.cuts.CutLists.{wants_reported}
 use Rattle.society_closings.specs.Blamed.{LackReturns}
 use Rattle.book_audit.proofs.paying.add_order.Goals as goal

@@ -2,11 +2,11 @@ use Rattle.std.proofs.Common.{rules}
 use Rattle.sqlite.specs.Held.{state}
 use Rattle.society_book.specs.BookRows.{book_of}
 use Rattle.book_audit.specs.Examining.{HoldsNot}
+use Rattle.society_book.proofs.lemmas.together.JudgedLemmas.{examines_not, examines_then}
 use Rattle.book_audit.specs.OwnRows.{LacksReached}
 use Rattle.book_audit.proofs.lemmas.OwnPools.{reached_by}
 use Rattle.book_audit.specs.Paying.{DeniesPools}
 use Rattle.book_audit.proofs.lemmas.Among.{orders_apart, orders_whole}
-use Rattle.book_audit.proofs.lemmas.Examinations.{examines_not, examines_then}
 use Rattle.book_audit.proofs.lemmas.Whole.{completes}
 use Rattle.book_audit.proofs.lemmas.orders.OwnOrders.{all_there, are_pools}
 use Rattle.book_audit.proofs.paying.money_agrees.Goals as goal

@@ -1,4 +1,5 @@
 use Rattle.book_audit.specs.Examining.{IsNot}
+use Rattle.society_book.proofs.lemmas.together.JudgedLemmas.{examines_not, examines_then}
 use Rattle.sqlite.specs.Held.{state}
 use Rattle.sqlite_trees.specs.Tree.{Trees}
 use Rattle.pool_split.specs.declared.claim.Credit.{Credit}
@@ -6,7 +7,6 @@ use Rattle.std.proofs.Common.{List, rules}
 use Rattle.book_audit.specs.Balances.{AreTotalsOf, HasBalances}
 use Rattle.book_audit.specs.Credits.{AreCreditsOfPools}
 use Rattle.book_audit.specs.Paying.{DeniesPools, FindsPools, LackPools, credits_by}
-use Rattle.book_audit.proofs.lemmas.Examinations.{examines_not, examines_then}
 use Rattle.book_audit.proofs.lemmas.OwnPools.{all_reached, balances_own, credits_own, works_held}
 use Rattle.book_audit.proofs.paying.pools_agree.Goals as goal
 

@@ -1,6 +1,6 @@
 use Rattle.std.proofs.Common.{◌≡◌, ◌∙◌, Ok, rules}
 use Rattle.sqlite.specs.Held.{state}
-use Rattle.book_audit.proofs.lemmas.Examinations.{examines_as, examines_not, examines_then}
+use Rattle.society_book.proofs.lemmas.together.JudgedLemmas.{examines_as, examines_not, examines_then}
 use Rattle.book_audit.proofs.lemmas.Paid.{paid_more}
 use Rattle.book_audit.proofs.lemmas.orders.Steps.{each_here}
 use Rattle.book_audit.specs.Credits.{FindsCredits, HasNoPool}

@@ -1,6 +1,6 @@
 use Rattle.std.proofs.Common.{◌≡◌, Ok, take}
 use Rattle.sqlite.specs.Held.{state}
-use Rattle.book_audit.specs.Examining.{Examines}
+use Rattle.society_book.specs.Steps.{Examines}
 use Rattle.book_audit.specs.Paying.{FindsPaid, LackPools, ListsForAll}
 use Rattle.book_audit.proofs.paying.totals_among.Given as goal
 

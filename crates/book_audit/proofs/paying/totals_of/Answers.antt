@@ -1,7 +1,7 @@
 use Rattle.std.proofs.Common.{rules}
 use Rattle.sqlite.specs.Held.{state}
 use Rattle.sqlite_trees.specs.Tree.{Trees}
-use Rattle.book_audit.proofs.lemmas.Examinations.{examines_not, examines_then}
+use Rattle.society_book.proofs.lemmas.together.JudgedLemmas.{examines_not, examines_then}
 use Rattle.book_audit.proofs.lemmas.OwnPools.{all_payable}
 use Rattle.book_audit.specs.Paying.{CannotPayAny, FindsPaid, LackPools, ListsForAll}
 use Rattle.book_audit.specs.declared.totals.Totals.{Totals}

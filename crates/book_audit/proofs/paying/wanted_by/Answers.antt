@@ -3,7 +3,7 @@ use Rattle.std.proofs.lemmas.List.{take_all}
 use Rattle.sqlite.specs.Held.{state}
 use Rattle.sqlite_trees.specs.Tree.{Trees}
 use Rattle.sqlite_trees.proofs.ListLemmas.{all_weaker}
-use Rattle.book_audit.proofs.lemmas.Examinations.{examines_as, examines_not, examines_then}
+use Rattle.society_book.proofs.lemmas.together.JudgedLemmas.{examines_as, examines_not, examines_then}
 use Rattle.book_audit.proofs.lemmas.orders.Steps.{each_here, each_more}
 use Rattle.book_audit.specs.Paying.{CannotPayAny, WantsAll, WantsOrder}
 use Rattle.book_audit.specs.declared.pool_orders.ClosedPool.{ClosedPool}

@@ -1,5 +1,5 @@
 use Rattle.std.proofs.Common.{rules}
-use Rattle.book_audit.proofs.lemmas.Examinations.{examines_then}
+use Rattle.society_book.proofs.lemmas.together.JudgedLemmas.{examines_then}
 use Rattle.society_closings.specs.Blamed.{HoldNoWorks}
 use Rattle.sqlite.specs.Held.{state}
 use Rattle.book_audit.proofs.paying.weigh.Goals as goal

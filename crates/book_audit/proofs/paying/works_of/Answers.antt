@@ -1,7 +1,7 @@
 use Rattle.std.proofs.Common.{◌∙◌, Ok, rules}
 use Rattle.std.specs.List.{AllByRecursion}
 use Rattle.sqlite.specs.Held.{state}
-use Rattle.book_audit.proofs.lemmas.Examinations.{examines_as, examines_failed, examines_not, examines_then}
+use Rattle.society_book.proofs.lemmas.together.JudgedLemmas.{examines_as, examines_of, examines_not, examines_then}
 use Rattle.book_audit.proofs.lemmas.credits.WorksListed.{ListsIts, all_weighed, works_listed}
 use Rattle.book_audit.specs.Paying.{CannotPayAny, ListsForAll}
 use Rattle.society_closings.specs.Blamed.{HoldNoWorks}
@@ -24,7 +24,8 @@ returns-in_err-works g c = record {
         let new = state g.S.Store c.works.new.tx.conn.now in
         let r = c.from_residual-in_err-works.result in
         examines_then (CannotPayAny closed) HoldNoWorks (CannotPayAny closed) old mid new wanted r _ (ListsForAll o closed) (ListsForAll o closed) c.in_ok-wanted.ensures.examined.says
-        (examines_failed {X = WorksByRecording} HoldNoWorks mid new c.in_err-works.field-0.0 r (ListsWorks (wants wanted)) (ListsForAll o closed) c.in_err-works.ensures.looks.says c.in_err-works.ensures.err c.from_residual-in_err-works.ensures.1)
+        (examines_not HoldNoWorks HoldNoWorks mid new c.in_err-works.field-0.0 r (ListsWorks (wants wanted)) (ListsForAll o closed)
+        (examines_of {X = WorksByRecording} HoldNoWorks mid new _ (ListsWorks (wants wanted)) c.in_err-works.ensures.looks.says c.in_err-works.ensures.err) c.from_residual-in_err-works.ensures.1 (λ none. none))
         (λ works asked lists. lists)
         (λ asked no other b holds can. no other b holds);
   };

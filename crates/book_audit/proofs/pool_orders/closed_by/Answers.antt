@@ -8,7 +8,7 @@ use Rattle.book_audit.proofs.lemmas.orders.Closings.{closed_as, is_whole, kind_b
 use Rattle.std.proofs.lemmas.Bool.{false≢true}
 use Rattle.society_rows.specs.Forms.{IsOfForms, pool_forms}
 use Rattle.society_book.specs.Columns.{whole_number_at}
-use Rattle.book_audit.proofs.lemmas.orders.Judging.{judges_on}
+use Rattle.society_book.proofs.lemmas.together.ErrLemmas.{blames_on}
 use Rattle.book_audit.proofs.lemmas.orders.OrdersAgain.{amount_in, amount_read, at_most, faultless_read, not_some, number_of_pool, number_taken, pool_form}
 use Rattle.book_audit.proofs.pool_orders.closed_by.Goals as goal
 
@@ -31,7 +31,7 @@ returns-in_default-try_from-clause-judged c rows b parts sound are closed =
 
 pub returns-in_err-order-clause-judged : goal.returns-in_err-order-clause-judged
 returns-in_err-order-clause-judged c =
-    judges_on c.from_residual.result c.in_err-order.field-0.0 _ _ c.from_residual.ensures.1 c.in_err-order.ensures.judged
+    blames_on c.from_residual.result c.in_err-order.field-0.0 _ _ c.from_residual.ensures.1 c.in_err-order.ensures.judged
     (λ wrong rows b parts sound are closed.
     let q = whole_number_at 0 c.args.row.now in
     let same = ap (whole_number_at 0) c.in-Ok.ensures.value in

@@ -5,13 +5,13 @@ use Rattle.society_book.specs.BookRows.{is_of_pool, pool_rows}
 use Rattle.society_book.specs.Columns.{HasRows}
 use Rattle.book_audit.specs.Pools.{AreClosedBy}
 use Rattle.book_audit.proofs.lemmas.orders.Closings.{are_orders, closed_more}
-use Rattle.book_audit.proofs.lemmas.orders.Judging.{judges_on}
+use Rattle.society_book.proofs.lemmas.together.ErrLemmas.{blames_on}
 use Rattle.book_audit.proofs.lemmas.orders.KnownRows.{closed_here}
 use Rattle.book_audit.proofs.pool_orders.closed_pools.Goals as goal
 
 pub returns-in_err-closed_by-clause-judged : goal.returns-in_err-closed_by-clause-judged
 returns-in_err-closed_by-clause-judged c =
-    judges_on c.from_residual-in_err-closed_by.result c.in_err-closed_by.field-0.0 _ _ c.from_residual-in_err-closed_by.ensures.1 c.in_err-closed_by.ensures.judged
+    blames_on c.from_residual-in_err-closed_by.result c.in_err-closed_by.field-0.0 _ _ c.from_residual-in_err-closed_by.ensures.1 c.in_err-closed_by.ensures.judged
     (λ wrong b sound are.
     let has = subst (HasRows (is_of_pool 0) (pool_rows b)) (sym c.as_slice-pools.ensures.value) are.pools in
     wrong c.args.rows.now b c.in_ok-parts.ensures.parts sound are (closed_here b _ has c.loop-row.row-index c.row-item.result c.loop-row-test.true c.row-item.is))

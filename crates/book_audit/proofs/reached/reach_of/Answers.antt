@@ -1,7 +1,7 @@
 use Rattle.std.proofs.Common.{◌≡◌, Ok, refl, subst, sym, rules}
 use Rattle.sqlite.specs.Held.{state}
 use Rattle.society_core.specs.Book.{front}
-use Rattle.book_audit.proofs.lemmas.Examinations.{examines_as, examines_not, examines_then}
+use Rattle.society_book.proofs.lemmas.together.JudgedLemmas.{examines_as, examines_not, examines_then}
 use Rattle.book_audit.specs.Standing.{HoldsNoLines, IsReach, OfLines}
 use Rattle.book_audit.specs.declared.reached.Reach.{Reach}
 use Rattle.book_audit.proofs.reached.reach_of.Goals as goal

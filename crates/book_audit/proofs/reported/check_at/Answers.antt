@@ -1,6 +1,6 @@
 use Rattle.std.proofs.Common.{◌∙◌, Err, Ok, sym, ap, rules}
 use Rattle.sqlite.specs.Held.{state}
-use Rattle.book_audit.proofs.lemmas.Examinations.{examines_as}
+use Rattle.society_book.proofs.lemmas.together.JudgedLemmas.{examines_as}
 use Rattle.book_audit.specs.Entries.{is_right_return}
 use Rattle.book_audit.specs.Judging.{is_one_right}
 use Rattle.book_audit.proofs.lemmas.entries.KeyForms.{some_if}

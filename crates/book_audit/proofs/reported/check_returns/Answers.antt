@@ -4,8 +4,8 @@ use Rattle.std.proofs.lemmas.Bool.{false≢true}
 use Rattle.std.proofs.lemmas.List.{take_all}
 use Rattle.sqlite.specs.Held.{state}
 use Rattle.sqlite_trees.specs.Tree.{Trees}
-use Rattle.book_audit.proofs.lemmas.Examinations.{examines_as, examines_not, examines_then}
-use Rattle.book_audit.specs.Examining.{Never}
+use Rattle.society_book.proofs.lemmas.together.JudgedLemmas.{examines_as, examines_not, examines_then}
+use Rattle.society_book.specs.Steps.{Never}
 use Rattle.book_audit.specs.Judging.{AreReported, is_reported_at}
 use Rattle.book_audit.proofs.lemmas.entries.KeyedRows.{here_of, more_of}
 use Rattle.book_audit.proofs.lemmas.entries.ReportedRows.{keys_of_reported, reported_by_keys}

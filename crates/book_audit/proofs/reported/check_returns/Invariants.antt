@@ -1,7 +1,7 @@
 use Rattle.std.proofs.Common.{◌≡◌, Ok, take, true}
 use Rattle.std.specs.List.{AllByRecursion}
 use Rattle.sqlite.specs.Held.{state}
-use Rattle.book_audit.specs.Examining.{Examines, Never}
+use Rattle.society_book.specs.Steps.{Examines, Never}
 use Rattle.society_rows.specs.Layout as layout
 use Rattle.society_rows.specs.Reads.{ListsKeys}
 use Rattle.book_audit.specs.Judging.{is_reported_at}

@@ -3,8 +3,8 @@ use Rattle.std.proofs.lemmas.List.{take_all}
 use Rattle.std.specs.List.{list_all}
 use Rattle.sqlite.specs.Held.{state}
 use Rattle.society_core.specs.declared.return_key.ReturnKey.{ReturnKey}
-use Rattle.book_audit.proofs.lemmas.Examinations.{examines_as, examines_then}
-use Rattle.book_audit.specs.Examining.{Never}
+use Rattle.society_book.proofs.lemmas.together.JudgedLemmas.{examines_as, examines_then}
+use Rattle.society_book.specs.Steps.{Never}
 use Rattle.book_audit.specs.Standing.{TellsPaid, is_paid_once}
 use Rattle.book_audit.proofs.lemmas.orders.Steps.{one_fails, one_passes}
 use Rattle.book_audit.proofs.returns.are_paid_once.Goals as goal

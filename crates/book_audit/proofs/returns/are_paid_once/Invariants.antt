@@ -1,7 +1,7 @@
 use Rattle.std.proofs.Common.{◌≡◌, Ok, take, true}
 use Rattle.std.specs.List.{list_all}
 use Rattle.sqlite.specs.Held.{state}
-use Rattle.book_audit.specs.Examining.{Examines, Never}
+use Rattle.society_book.specs.Steps.{Examines, Never}
 use Rattle.book_audit.specs.Standing.{is_paid_once}
 use Rattle.book_audit.proofs.returns.are_paid_once.Given as goal
 

@@ -2,7 +2,7 @@ use Rattle.std.proofs.Common.{◌≡◌, Ok, is_some, take, true}
 use Rattle.std.specs.List.{list_all}
 use Rattle.sqlite.specs.Held.{state}
 use Rattle.society_core.specs.Book.{return_at}
-use Rattle.book_audit.specs.Examining.{Examines, Never}
+use Rattle.society_book.specs.Steps.{Examines, Never}
 use Rattle.book_audit.specs.Standing.{OfLines}
 use Rattle.book_audit.proofs.returns.are_there.Given as goal
 

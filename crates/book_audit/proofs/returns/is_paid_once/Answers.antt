@@ -1,8 +1,8 @@
 use Rattle.std.proofs.Common.{◌∙◌, ◌==◌, ℕ, Ok, ap, length, rules}
 use Rattle.std.proofs.lemmas.List.Sorted.{length_permutation}
 use Rattle.sqlite.specs.Held.{state}
-use Rattle.book_audit.proofs.lemmas.Examinations.{examines_as}
-use Rattle.book_audit.specs.Examining.{Never}
+use Rattle.society_book.proofs.lemmas.together.JudgedLemmas.{examines_as}
+use Rattle.society_book.specs.Steps.{Never}
 use Rattle.book_audit.proofs.returns.is_paid_once.Goals as goal
 
 pub returns : goal.returns

@@ -1,8 +1,8 @@
 use Rattle.std.proofs.Common.{◌∙◌, ◌==◌, List, Ok, ap, length, rules}
 use Rattle.sqlite.specs.Held.{state}
 use Rattle.sqlite_value.specs.Order.{Row}
-use Rattle.book_audit.proofs.lemmas.Examinations.{examines_as}
-use Rattle.book_audit.specs.Examining.{Never}
+use Rattle.society_book.proofs.lemmas.together.JudgedLemmas.{examines_as}
+use Rattle.society_book.specs.Steps.{Never}
 use Rattle.society_book.proofs.lemmas.rows_alike.KeyRows.{refilled_by}
 use Rattle.book_audit.proofs.lemmas.orders.Lines.{return_told}
 use Rattle.book_audit.proofs.returns.is_there.Goals as goal

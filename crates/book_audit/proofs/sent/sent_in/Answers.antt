@@ -1,4 +1,4 @@
-use Rattle.std.proofs.Common.{◌≡◌, ◌∙◌, ◌+◌, Err, IfErr, IfOk, Ok, Result, ap, false, map, subst, sym, take, true, rules}
+use Rattle.std.proofs.Common.{◌≡◌, ◌∙◌, ◌+◌, Err, Ok, ap, false, map, subst, sym, take, true, rules}
 use Rattle.std.specs.List.{AllByRecursion}
 use Rattle.std.proofs.lemmas.Bool.{false≢true}
 use Rattle.std.proofs.lemmas.List.{take_all}
@@ -8,11 +8,9 @@ use Rattle.society_rows.specs.Layout as layout
 use Rattle.society_rows.specs.Reads.{ListsKeys}
 use Rattle.society_book.specs.BookRows.{transmission_key_of}
 use Rattle.society_core.specs.declared.transmission_key.TransmissionKey.{TransmissionKey}
-use Rattle.book_audit.proofs.lemmas.Examinations.{examines_as, examines_not, examines_then}
-use Rattle.book_audit.specs.Examining.{Judges, Never}
-use Rattle.book_audit.specs.declared.audit_fault.AuditFault.{AuditFault}
-use Rattle.book_audit.specs.declared.audit_fault.AuditFault.TheVariants as audit
-use Rattle.std.specs.Result.{IsErrAnd}
+use Rattle.society_book.proofs.lemmas.together.JudgedLemmas.{examines_as, examines_not, examines_then}
+use Rattle.society_book.proofs.lemmas.together.ErrLemmas.{blames_memory, no_answer}
+use Rattle.society_book.specs.Steps.{Never}
 use Rattle.book_audit.specs.Judging.{AreSent, AreSentKeys, is_sent_at}
 use Rattle.book_audit.proofs.lemmas.entries.KeyedRows.{here_of, more_of, more_told}
 use Rattle.book_audit.proofs.lemmas.entries.SentRows.{keys_of_sent, sent_by_keys, sent_listed}
@@ -39,15 +37,6 @@ returns-in_err-key g c = record {
   };
 }
 
--- want of memory says nothing of the rows
-none_told : {X : Type 0} (r : Result X AuditFault) (P : X → Type 0) → IsErrAnd r (λ e. e ≡ audit.Memory) → IfOk r P
-none_told (Ok x) P is = absurd is
-none_told (Err fault) P is = tt
-
-memory_told : {X : Type 0} (r : Result X AuditFault) (Wrong : Type 0) → IsErrAnd r (λ e. e ≡ audit.Memory) → IfErr r (Judges Wrong)
-memory_told (Ok x) Wrong is = tt
-memory_told (Err fault) Wrong is = subst (Judges Wrong) (sym is) tt
-
 pub returns-in_err-push : goal.returns-in_err-push
 returns-in_err-push g c = record {
   examined = record {
@@ -61,7 +50,7 @@ returns-in_err-push g c = record {
         examines_as {X = Unit {0}} Never NotSent old new tt c.from_residual-in_err-push.result (λ db (u : Unit {0}). Unit {0}) _
         (examines_then {X = Unit {0}} {Y = Unit {0}} Never Never Never old mid new tt (Ok tt) _ (λ db u. Unit {0}) (λ db u. Unit {0}) c.loop-row.invariant.examined
         (examines_as {Y = Unit {0}} (λ db. is_sent_at db row ≡ false) Never mid new c.in_ok-key.key (Ok tt) _ (λ db u. Unit {0}) c.in_ok-key.ensures.examined.says (λ found. tt) (λ found. tt)) (λ y found here. tt) (λ found never. never))
-        (λ found. none_told c.from_residual-in_err-push.result _ told) (λ found. memory_told c.from_residual-in_err-push.result _ told);
+        (λ found. no_answer c.from_residual-in_err-push.result _ _ told) (λ found. blames_memory _ c.from_residual-in_err-push.result told);
   };
 }
 

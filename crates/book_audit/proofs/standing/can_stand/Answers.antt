@@ -1,7 +1,7 @@
 use Rattle.std.proofs.Common.{◌≡◌, ◌∙◌, ◌&&◌, Bool, Ok, ap₂, rules}
 use Rattle.sqlite.specs.Held.{state}
-use Rattle.book_audit.proofs.lemmas.Examinations.{examines_as, examines_then}
-use Rattle.book_audit.specs.Examining.{Never}
+use Rattle.society_book.proofs.lemmas.together.JudgedLemmas.{examines_as, examines_then}
+use Rattle.society_book.specs.Steps.{Never}
 use Rattle.book_audit.specs.Standing.{HoldsNoLines, TellsPaid, TellsReturns}
 use Rattle.book_audit.proofs.standing.can_stand.Goals as goal
 

@@ -3,13 +3,13 @@ use Rattle.std.specs.declared.alloc.Global.{Global}
 use Rattle.std.specs.List.{AllByRecursion}
 use Rattle.sqlite.specs.Held.{state}
 use Rattle.society_core.specs.Orders.{IsOrder}
-use Rattle.book_audit.proofs.lemmas.Examinations.{examines_as, examines_not, examines_then}
-use Rattle.book_audit.specs.Examining.{Never}
+use Rattle.society_book.proofs.lemmas.together.ErrLemmas.{blames_on, no_answer}
+use Rattle.society_book.proofs.lemmas.together.JudgedLemmas.{examines_as, examines_not, examines_then}
+use Rattle.society_book.specs.Steps.{Never}
 use Rattle.book_audit.specs.OwnRows.{LacksReached}
 use Rattle.book_audit.specs.Pools.{ListPools}
 use Rattle.book_audit.specs.Standing.{FindsOrders, OrdersFall, OrdersStand}
 use Rattle.book_audit.specs.declared.pool_orders.ClosedPool.{ClosedPool}
-use Rattle.book_audit.proofs.lemmas.orders.Judging.{judges_on, no_answer}
 use Rattle.book_audit.proofs.lemmas.orders.OwnOrders.{all_stand, are_pools, lines_held}
 use Rattle.book_audit.proofs.standing.orders_in.Goals as goal
 
@@ -22,7 +22,7 @@ returns-in_err-closed g c = record {
         let db = old.now.trees in
         examines_as Never LacksReached old (state g.S.Store c.pool_rows.new.tx.conn.now) c.in_ok-rows.rows c.from_residual-in_err-closed.result ListPools _ c.in_ok-rows.ensures.examined.says
         (λ listed. no_answer c.from_residual-in_err-closed.result _ _ c.from_residual-in_err-closed.ensures.1)
-        (λ listed. judges_on c.from_residual-in_err-closed.result c.in_err-closed.field-0.0 _ _ c.from_residual-in_err-closed.ensures.1 c.in_err-closed.ensures.judged
+        (λ listed. blames_on c.from_residual-in_err-closed.result c.in_err-closed.field-0.0 _ _ c.from_residual-in_err-closed.ensures.1 c.in_err-closed.ensures.judged
         (λ wrong o b holds. wrong b holds.own.sound (are_pools o b db holds c.in_ok-rows.rows listed)));
   };
 }

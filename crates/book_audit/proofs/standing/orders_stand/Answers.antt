@@ -4,7 +4,7 @@ use Rattle.std.proofs.lemmas.List.{take_all}
 use Rattle.std.specs.List.{AllByRecursion}
 use Rattle.sqlite.specs.Held.{state}
 use Rattle.society_core.specs.Orders.{IsOrder}
-use Rattle.book_audit.proofs.lemmas.Examinations.{examines_as, examines_not, examines_nothing, examines_then}
+use Rattle.society_book.proofs.lemmas.together.JudgedLemmas.{examines_as, examines_not, examines_nothing, examines_then}
 use Rattle.book_audit.specs.Standing.{CanStand, HoldsNoLines, KnowsReach, OfLines, OrdersFall, can_stand}
 use Rattle.book_audit.specs.declared.pool_orders.ClosedPool.{ClosedPool}
 use Rattle.book_audit.proofs.lemmas.orders.Steps.{each_here, each_more}

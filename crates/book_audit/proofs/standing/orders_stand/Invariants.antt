@@ -3,7 +3,7 @@ use Rattle.std.specs.List.{AllByRecursion}
 use Rattle.sqlite.specs.Held.{state}
 use Rattle.society_core.specs.Orders.{IsOrder}
 use Rattle.book_audit.specs.declared.pool_orders.ClosedPool.{ClosedPool}
-use Rattle.book_audit.specs.Examining.{Examines}
+use Rattle.society_book.specs.Steps.{Examines}
 use Rattle.book_audit.specs.Standing.{HoldsNoLines, KnowsReach, OrdersStand}
 use Rattle.book_audit.proofs.standing.orders_stand.Given as goal
 

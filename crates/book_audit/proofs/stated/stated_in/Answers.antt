@@ -3,8 +3,8 @@ use Rattle.sqlite.specs.Held.{state}
 use Rattle.sqlite_value.specs.Order.{Row}
 use Rattle.society_rows.specs.Listings.{ListsAll}
 use Rattle.society_rows.specs.declared.tables.TableName.TheVariants as name
-use Rattle.book_audit.proofs.lemmas.Examinations.{examines_as}
-use Rattle.book_audit.specs.Examining.{Never}
+use Rattle.society_book.proofs.lemmas.together.JudgedLemmas.{examines_as}
+use Rattle.society_book.specs.Steps.{Never}
 use Rattle.book_audit.specs.Judging.{AreStated}
 use Rattle.book_audit.proofs.lemmas.entries.StatedRows.{right_lasts, wrong_lasts}
 use Rattle.book_audit.proofs.stated.stated_in.Goals as goal

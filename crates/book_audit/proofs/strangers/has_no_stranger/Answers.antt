@@ -1,7 +1,7 @@
 use Rattle.book_audit.specs.Examining.{IsNot}
+use Rattle.society_book.proofs.lemmas.together.JudgedLemmas.{examines_also}
 use Rattle.sqlite.specs.Held.{state}
 use Rattle.society_book.specs.BookRows.{book_of}
-use Rattle.book_audit.proofs.lemmas.Examinations.{examines_also}
 use Rattle.book_audit.specs.Auditing.{AreLinesOf}
 use Rattle.book_audit.specs.LineSteps.{AreAllOfThese, DeniesLines}
 use Rattle.book_audit.proofs.lemmas.lines.Strangers.{lines_of_these, own_these}

@@ -5,9 +5,10 @@ use Rattle.std.specs.declared.alloc.Global.{Global}
 use Rattle.sqlite.specs.Held.{state}
 use Rattle.sqlite_value.specs.Order.{Row}
 use Rattle.society_rows.specs.FirstColumns.{ListsFirstColumn, derived_table}
-use Rattle.book_audit.specs.Examining.{Never, IsNot}
-use Rattle.book_audit.specs.declared.audit_fault.AuditFault.TheVariants.{Damaged}
-use Rattle.book_audit.proofs.lemmas.Examinations.{examines_as}
+use Rattle.book_audit.specs.Examining.{IsNot}
+use Rattle.society_book.proofs.lemmas.together.JudgedLemmas.{examines_as}
+use Rattle.society_book.specs.Steps.{Never}
+use Rattle.society_rows.specs.declared.fault.RowFault.TheVariants.{Damaged}
 use Rattle.book_audit.specs.Auditing.{is_of_one}
 use Rattle.book_audit.specs.LineSteps.{AreOfThese}
 use Rattle.book_audit.proofs.lemmas.lines.Strangers.{listed_these, these_listed}

@@ -6,7 +6,7 @@ use Rattle.sqlite_value.specs.declared.value.Value.TheVariants.{Int, Text}
 use Rattle.society_rows.specs.Layout as layout
 use Rattle.society_rows.specs.Stored.{rows_in}
 use Rattle.society_rows.specs.declared.fault.RowFault.{RowFault}
-use Rattle.book_audit.specs.Examining.{Never}
+use Rattle.society_book.specs.Steps.{Never}
 use Rattle.book_derivation.proofs.lemmas.Derivings.{derives_also}
 use Rattle.book_derivation.proofs.lemmas.Writes.{balances_derived, derives_adds}
 use Rattle.book_derivation.proofs.balances.write_balance.Goals as goal

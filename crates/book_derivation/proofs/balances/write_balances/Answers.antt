@@ -1,7 +1,7 @@
 use Rattle.std.proofs.Common.{◌∙◌, Ok, refl, rules}
 use Rattle.sqlite.specs.Held.{state}
 use Rattle.sqlite_trees.specs.Tree.{Trees}
-use Rattle.book_audit.specs.Examining.{Never}
+use Rattle.society_book.specs.Steps.{Never}
 use Rattle.book_derivation.specs.Money.{AddsBalance, WritesBalances}
 use Rattle.book_derivation.proofs.lemmas.Derivings.{derives_as, derives_not, derives_nothing, derives_then}
 use Rattle.book_derivation.proofs.lemmas.money.BalanceSteps.{WritesUpTo, all_added, none_added, one_added}

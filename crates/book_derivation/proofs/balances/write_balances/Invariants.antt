@@ -1,6 +1,6 @@
 use Rattle.std.proofs.Common.{◌≡◌, Ok}
 use Rattle.sqlite.specs.Held.{state}
-use Rattle.book_audit.specs.Examining.{Never}
+use Rattle.society_book.specs.Steps.{Never}
 use Rattle.book_derivation.specs.Deriving.{Derives}
 use Rattle.book_derivation.proofs.lemmas.money.BalanceSteps.{WritesUpTo}
 use Rattle.book_derivation.proofs.balances.write_balances.Given as goal

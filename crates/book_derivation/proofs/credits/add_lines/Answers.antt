@@ -2,7 +2,7 @@ use Rattle.std.proofs.Common.{map, rules}
 use Rattle.sqlite.specs.Held.{state}
 use Rattle.society_rows.specs.Layout as layout
 use Rattle.society_rows.specs.Rows.{credit_values}
-use Rattle.book_audit.specs.Examining.{Never}
+use Rattle.society_book.specs.Steps.{Never}
 use Rattle.book_derivation.proofs.lemmas.Derivings.{derives_also}
 use Rattle.book_derivation.proofs.lemmas.Writes.{credits_table_derived, derives_adds}
 use Rattle.book_derivation.proofs.credits.add_lines.Goals as goal

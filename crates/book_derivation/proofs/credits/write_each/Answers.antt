@@ -9,7 +9,7 @@ use Rattle.society_closings.specs.Blamed.{CannotPayAmong}
 use Rattle.book_audit.specs.Paying.{ListsForAll}
 use Rattle.book_audit.specs.declared.pool_orders.ClosedPool.{ClosedPool}
 use Rattle.book_audit.specs.declared.totals.Totals.{Totals}
-use Rattle.book_audit.proofs.lemmas.orders.Judging.{judges_on, no_answer}
+use Rattle.society_book.proofs.lemmas.together.ErrLemmas.{blames_on, no_answer}
 use Rattle.book_derivation.specs.Money.{CannotPayListed, WritesListed, WritesPool}
 use Rattle.book_derivation.proofs.lemmas.Derivings.{derives_as, derives_not, derives_nothing, derives_then}
 use Rattle.book_derivation.proofs.lemmas.money.CreditSteps.{WritesSome, all_written, none_written, not_all, some_more}
@@ -69,7 +69,7 @@ returns-in_err-add_portions g c = record {
         derives_then (CannotPayListed o closed works) (CannotPayAmong o one.order works) (CannotPayListed o closed works) old mid new tt r (λ before after (done : Unit {0}). ListsForAll o closed before works → WritesSome o closed (take i closed) before after totals) Nothing (WritesListed o closed works) c.loop-one.invariant.derives
         (derives_as (CannotPayAmong o one.order works) (CannotPayAmong o one.order works) mid new c.in_ok-portions.portions r (λ before after (credits : Vec (List Credit) Global). WritesPool o one.pool one.order works before after (credits_together credits.items)) Nothing c.in_ok-portions.ensures.derives.says
         (λ writes. no_answer r _ _ c.from_residual-in_err-add_portions.ensures.1)
-        (λ writes. judges_on r c.in_err-add_portions.field-0.0 ⊥ (CannotPayAmong o one.order works mid.now.trees) c.from_residual-in_err-add_portions.ensures.1 c.in_err-add_portions.ensures.judged (λ never. absurd never)))
+        (λ writes. blames_on r c.in_err-add_portions.field-0.0 ⊥ (CannotPayAmong o one.order works mid.now.trees) c.from_residual-in_err-add_portions.ensures.1 c.in_err-add_portions.ensures.judged (λ never. absurd never)))
         (λ y own later before never. absurd never)
         (λ own before cannot listed. not_all o closed works i one c.loop-one-test.true c.one-item.is old.now.trees mid.now.trees totals listed (before listed) cannot);
   };

@@ -8,7 +8,7 @@ use Rattle.society_rows.specs.Layout as layout
 use Rattle.society_rows.specs.Stored.{rows_in}
 use Rattle.society_closings.specs.Closings.{lines_from}
 use Rattle.society_closings.proofs.lemmas.money.PoolWrites.{lines_after}
-use Rattle.book_audit.specs.Examining.{Never}
+use Rattle.society_book.specs.Steps.{Never}
 use Rattle.book_audit.proofs.lemmas.credits.Portions.{together_next}
 use Rattle.book_derivation.specs.Money.{AddsCredits, AddsCreditLines}
 use Rattle.book_derivation.proofs.lemmas.Additions.{added_behind, others_on}

@@ -1,7 +1,7 @@
 use Rattle.std.proofs.Common.{◌≡◌, Ok, length, take}
 use Rattle.sqlite.specs.Held.{state}
 use Rattle.pool_split.specs.Credits.{credits_together}
-use Rattle.book_audit.specs.Examining.{Never}
+use Rattle.society_book.specs.Steps.{Never}
 use Rattle.book_derivation.specs.Deriving.{Derives}
 use Rattle.book_derivation.specs.Money.{AddsCredits}
 use Rattle.book_derivation.proofs.credits.write_lines.Given as goal

@@ -6,7 +6,7 @@ use Rattle.pool_split.specs.Credits.{credits_together}
 use Rattle.pool_split.specs.declared.claim.Credit.{Credit}
 use Rattle.society_closings.specs.Blamed.{CannotPayAmong}
 use Rattle.society_closings.specs.Closings.{PaysAmong}
-use Rattle.book_audit.specs.Examining.{Never}
+use Rattle.society_book.specs.Steps.{Never}
 use Rattle.book_derivation.specs.Money.{AddsCredits, WritesPool}
 use Rattle.book_derivation.proofs.lemmas.Derivings.{derives_as, derives_examined, derives_not, derives_then}
 use Rattle.book_derivation.proofs.lemmas.money.CreditSteps.{pool_written}

@@ -6,7 +6,7 @@ use Rattle.society_arrivals.specs.Going.{IsWholeIn}
 use Rattle.society_book.specs.RightRows.{KeepsUnsound}
 use Rattle.society_arrivals.specs.Runs.{RunValue}
 use Rattle.society_arrivals.specs.declared.outcomes.Outcome.{Outcome}
-use Rattle.book_audit.specs.Examining.{Never}
+use Rattle.society_book.specs.Steps.{Never}
 use Rattle.book_audit.specs.LineSteps.{SettlesLine}
 use Rattle.book_derivation.proofs.lemmas.Derivings.{derives_examined, derives_then}
 use Rattle.book_derivation.proofs.lemmas.OwnWrites.{writes_line}

@@ -10,7 +10,7 @@ use Rattle.society_arrivals.specs.Arriving.{PutsOutcomes}
 use Rattle.society_arrivals.specs.Outcomes.{settled}
 use Rattle.society_arrivals.specs.Runs.{settled_recordings, settled_verdict, settled_version}
 use Rattle.society_arrivals.specs.LineTables.{PutsLine}
-use Rattle.book_audit.specs.Examining.{Never}
+use Rattle.society_book.specs.Steps.{Never}
 use Rattle.book_audit.proofs.lemmas.lines.WantedRows.{the_ok}
 use Rattle.book_derivation.proofs.lemmas.Derivings.{derives_also}
 use Rattle.book_derivation.proofs.lemmas.LineWrites.{line_ordered}

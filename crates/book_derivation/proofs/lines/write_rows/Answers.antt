@@ -3,7 +3,7 @@ use Rattle.sqlite.specs.Held.{state}
 use Rattle.society_rows.specs.Layout as layout
 use Rattle.society_rows.specs.Rows.{front_values, recording_values, verdict_values, version_values}
 use Rattle.society_arrivals.specs.LineTables.{AddsTold, PutsLine}
-use Rattle.book_audit.specs.Examining.{Never}
+use Rattle.society_book.specs.Steps.{Never}
 use Rattle.book_derivation.proofs.lemmas.Derivings.{derives_then}
 use Rattle.book_derivation.proofs.lemmas.LineWrites.{puts_line_of, told_of, works_of}
 use Rattle.book_derivation.proofs.lemmas.Writes.{AddsRows, PutsRow, derives_adds, derives_puts, fronts_derived, recordings_derived, verdicts_derived, versions_derived}

@@ -2,7 +2,7 @@ use Rattle.std.proofs.Common.{Err, Ok, Vec, subst, rules}
 use Rattle.std.specs.declared.alloc.Global.{Global}
 use Rattle.sqlite.specs.Held.{state}
 use Rattle.sqlite_trees.specs.Tree.{Trees}
-use Rattle.book_audit.specs.Examining.{Never}
+use Rattle.society_book.specs.Steps.{Never}
 use Rattle.book_audit.specs.OwnRows.{LacksReached}
 use Rattle.book_audit.specs.Standing.{FindsOrders}
 use Rattle.book_audit.specs.declared.pool_orders.ClosedPool.{ClosedPool}

@@ -1,11 +1,12 @@
 -- What the row of a sender's front shows.
-use Rattle.std.proofs.Common.{◌≡◌, ◌∙◌, inl, inr, ℕ, pos, Bool, true, false, cond, List, [], ◌∷◌, Option, Some, None, refl, sym}
+use Rattle.std.proofs.Common.{◌≡◌, ◌∙◌, ◌≤◌, ◌<◌, ◌^◌, inl, inr, ℕ, pos, Bool, true, false, cond, List, [], ◌∷◌, Option, Some, None, ap, arith, get_or, length, refl, sym}
 use Rattle.std.specs.List.{AllByRecursion}
 use Rattle.share_rules.specs.declared.office.Office.{Office}
 use Rattle.sqlite_trees.specs.Tree.{Trees}
 use Rattle.sqlite_value.specs.declared.value.Value.TheVariants.{Int, Text}
-use Rattle.sqlite_value.specs.Order.{Row}
-use Rattle.society_core.specs.Book.{Book, ends_of, front}
+use Rattle.sqlite_value.specs.Order.{Row, column}
+use Rattle.society_core.proofs.lemmas.Books.{sound_front}
+use Rattle.society_core.specs.Book.{Book, IsSound, ends_of, front}
 use Rattle.society_core.proofs.lemmas.Fronts.{front_only}
 use Rattle.sender_segments.specs.Ways.{AreRight, End}
 use Rattle.society_book.proofs.lemmas.lines.KnownSenders.{nothing_sent, nothing_stated}
@@ -40,3 +41,20 @@ front_found o b db holds s found lists =
     shows : (x : Bool) → knows_sender b s ≡ x → found ≡ cond x ((Text s ∷ Int (pos (front b s)) ∷ Int (pos (works_to o b s)) ∷ []) ∷ []) [] → ShowFront (front b s) found
     shows true is e = inr (s, pos (works_to o b s), e)
     shows false is e = inl (e, front_of_nobody b s is)
+
+-- it is a number of 32 bits
+pub small_front : (b : Book) (s : List ℕ) → IsSound b → front b s < 2 ^ 32
+small_front b s sound = let high = sound_front b s sound in omega (high, arith)
+
+-- no row, one, or more
+pub none_shown : (n : ℕ) (rows : List Row) → ShowFront n rows → length rows ≡ 0 → 0 ≡ n
+none_shown n rows (inl none) short = sym none.1
+none_shown n rows (inr one) short = absurd (let l = ap length one.2 in omega (arith, l, short))
+
+pub one_shown : (n : ℕ) (rows : List Row) (row : Row) → ShowFront n rows → length rows ≡ 1 → row ≡ get_or rows 0 row → column row 1 ≡ Int (pos n)
+one_shown n rows row (inl none) long is = absurd (let l = ap length none.0 in omega (arith, l, long))
+one_shown n rows row (inr one) long is = ap (λ (r : Row). column r 1) (is ∙ ap (λ (l : List Row). get_or l 0 row) one.2)
+
+pub few_shown : (n : ℕ) (rows : List Row) → ShowFront n rows → length rows ≤ 1
+few_shown n rows (inl none) = let l = ap length none.0 in omega (arith, l)
+few_shown n rows (inr one) = let l = ap length one.2 in omega (arith, l)

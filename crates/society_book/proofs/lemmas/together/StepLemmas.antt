@@ -19,7 +19,7 @@ still s = record { clean = omega arith; shield = λ h. h; counts = omega arith; 
 pub survives_on : (old mid new : State) → Survives old mid (λ _. ⊥) → Survives mid new (λ _. ⊥) → Survives old new (λ _. ⊥)
 survives_on old mid new = survives_then old mid new (λ _. ⊥) (λ _. ⊥) (λ _. ⊥) (λ clean db never. never) (λ clean db never. never)
 
-was_clean : (mid new : State) → Survives mid new (λ _. ⊥) → HasCleanDisk new → HasCleanDisk mid
+pub was_clean : (mid new : State) → Survives mid new (λ _. ⊥) → HasCleanDisk new → HasCleanDisk mid
 was_clean mid new survives clean = (let fell = survives.clean in omega (clean, fell, arith))
 
 -- what follows of an answer that may be an error
@@ -36,14 +36,17 @@ on_both (Ok x) f h = f h
 on_both (Err e) f h = tt
 
 -- no statement
-pub nothing : {X : Type 0} (s : State) (r : Result X RowFault) (A : Trees → X → Type 0) → IfOk r (A s.now.trees) → Looks s s r A
-nothing s r A h = record {
-  says = λ clean inside has. more r (λ x a. (refl, a)) h;
+pub does_nothing : {X : Type 0} (s : State) (r : Result X RowFault) (A : Database → Database → X → Type 0) → (HasLayout s.now → IfOk r (A s.now s.now)) → Does s s r A
+does_nothing s r A h = record {
+  says = λ clean inside has. h has;
   layout = λ clean inside has. on_ok r has;
   inside = λ clean inside. on_ok r inside;
   kept = λ clean inside. record { was_open = λ h. h; committed = λ h. refl };
   survives = still s;
 }
+
+pub nothing : {X : Type 0} (s : State) (r : Result X RowFault) (A : Trees → X → Type 0) → IfOk r (A s.now.trees) → Looks s s r A
+nothing s r A h = does_nothing s r (λ before after x. (after ≡ before) × A before.trees x) (λ has. more r (λ x a. (refl, a)) h)
 
 -- statements, and then others
 pub does_then : {X Y : Type 0} (old mid new : State) (x : X) (r : Result Y RowFault) (A : Database → Database → X → Type 0) (B C : Database → Database → Y → Type 0) → Does old mid (Ok x) A → Does mid new r B → ((y : Y) → A old.now mid.now x → B mid.now new.now y → C old.now new.now y) → Does old new r C

@@ -7,9 +7,8 @@ use Rattle.sqlite_schema.specs.declared.schema.Table.{Table}
 use Rattle.sqlite_trees.proofs.ListLemmas.{all-filter, all-permutation}
 use Rattle.sqlite_trees.specs.Tree.{Trees}
 use Rattle.sqlite_value.specs.Order.{Row}
-use Rattle.society_book.proofs.lemmas.together.ErrLemmas.{errs_on, errs_then, blames_more}
+use Rattle.society_book.proofs.lemmas.together.ErrLemmas.{errs_on, errs_then}
 use Rattle.society_book.proofs.lemmas.together.StepLemmas.{does_not, looks_then}
-use Rattle.society_book.specs.Errors.{Blames}
 use Rattle.society_book.specs.Steps.{Looks}
 use Rattle.society_rows.specs.Effects.{Errs, FaultSays}
 use Rattle.society_rows.specs.Reads.{Lists}
@@ -17,17 +16,7 @@ use Rattle.society_rows.specs.Stored.{rows_in}
 use Rattle.society_rows.specs.declared.fault.RowFault.{RowFault}
 use Rattle.society_rows.specs.declared.fault.RowFault.TheVariants as row
 
--- an error that is handed on
-pub blames_on : {X : Type 0} (P Q : Type 0) (fault : RowFault) (r : Result X RowFault) → Blames P fault → IsErrAnd r (λ e. e ≡ fault) → (P → Q) → IfErr r (Blames Q)
-blames_on P Q fault (Ok x) blames is also = tt
-blames_on P Q fault (Err e) blames is also = subst (Blames Q) (sym is) (blames_more P Q fault also blames)
-
--- want of memory blames nothing
-pub blames_memory : {X : Type 0} (P : Type 0) (r : Result X RowFault) → IsErrAnd r (λ e. e ≡ row.Memory) → IfErr r (Blames P)
-blames_memory P (Ok x) is = tt
-blames_memory P (Err e) is = subst (Blames P) (sym is) tt
-
--- neither does it of readings
+-- want of memory blames no readings
 pub errs_memory : {X : Type 0} (Wrong : Trees → Type 0) (old new : State) (r : Result X RowFault) → IsErrAnd r (λ e. e ≡ row.Memory) → Errs Wrong old new r
 errs_memory Wrong old new (Ok x) is clean inside has = tt
 errs_memory Wrong old new (Err e) is clean inside has = subst (FaultSays Wrong old new) (sym is) tt

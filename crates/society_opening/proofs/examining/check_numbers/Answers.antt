@@ -1,55 +1,60 @@
-use Rattle.std.proofs.Common.{◌∙◌, Bool, Err, Ok, sym, rules}
+use Rattle.std.proofs.Common.{◌∙◌, Bool, Err, Ok, Result, sym, rules}
 use Rattle.std.proofs.lemmas.Bool.{false≢true}
 use Rattle.sqlite.specs.Held.{state}
+use Rattle.sqlite.specs.State.{State}
 use Rattle.sqlite_trees.specs.Tree.{Trees}
+use Rattle.society_rows.specs.Effects.{ErrsByMediumOver, OnlyFailsOver}
 use Rattle.society_rows.specs.Layouts.{HasTable}
+use Rattle.society_rows.specs.Reads.{ReadsOver}
 use Rattle.society_rows.specs.Stored.{AreNumbered, HasLayout}
 use Rattle.society_rows.specs.TableNames.{table_called}
+use Rattle.society_rows.specs.declared.fault.RowFault.{RowFault}
+use Rattle.society_rows.specs.declared.fault.RowFault.TheVariants.{Damaged}
+use Rattle.society_rows.specs.declared.tables.TableName.{TableName}
 use Rattle.society_rows.proofs.lemmas.definitions.FirstTables.{has_table}
 use Rattle.society_rows.proofs.lemmas.readings.Queries.{reads_where}
-use Rattle.society_book.proofs.lemmas.together.StepLemmas.{looks_of}
-use Rattle.book_audit.specs.declared.audit_fault.AuditFault.TheVariants.{Damaged}
-use Rattle.book_audit.proofs.lemmas.Examinations.{examines_as, examines_looks}
-use Rattle.society_opening.proofs.lemmas.opened.Examined.{examines_failed}
+use Rattle.society_book.specs.Steps.{Examines, Never}
+use Rattle.society_book.proofs.lemmas.together.JudgedLemmas.{examines_as, examines_not, examines_reads}
 use Rattle.society_opening.proofs.examining.check_numbers.Goals as goal
 
-pub returns-in-Ok-true : goal.returns-in-Ok-true
-returns-in-Ok-true g c = record {
+-- what one statement reads of a table that layout 3 has
+examined : {X : Type 0} (table : TableName) (old new : State) (r : Result X RowFault) (Found : Trees → X → Type 0) → ReadsOver (HasTable table) old new r Found → OnlyFailsOver (HasTable table) old new r
+    → ErrsByMediumOver (HasTable table) old new r → Examines Never old new r Found
+examined table old new r Found reads told medium =
+    examines_reads old new r Found (reads_where (HasTable table) HasLayout old new r Found (has_table table old.now) reads) (λ clean has. told clean (has_table table old.now has)) (λ clean has. medium clean (has_table table old.now has))
+
+pub returns-then-branch : goal.returns-then-branch
+returns-then-branch g c = record {
   examined = record {
     same_reference = search rules;
     says =
         let old = state g.S.Store c.args.tx.now.conn.now in
         let new = state g.S.Store c.are_numbered.new.tx.conn.now in
-        let Wrong : Trees → Type 0 = λ db. AreNumbered (table_called c.args.table) db → ⊥ in
-        examines_as Wrong Wrong old new _ (Ok tt) _ (λ db _. AreNumbered (table_called c.args.table) db)
-        (examines_looks Wrong old new _ _ (looks_of old new (Ok _) _ (reads_where (HasTable c.args.table) HasLayout old new _ _ (has_table c.args.table old.now) c.in-Ok-true.ensures.read.says)))
-        (λ is. is.0 c.in-Ok-true.field-0-test) (λ is. tt);
+        examines_as Never (λ db. AreNumbered (table_called c.args.table) db → ⊥) old new _ (Ok tt) _ (λ db _. AreNumbered (table_called c.args.table) db)
+        (examined c.args.table old new (Ok _) _ c.in_ok-are_numbered.ensures.read.says c.in_ok-are_numbered.ensures.err c.in_ok-are_numbered.ensures.medium) (λ is. is.0 c.if-branch.true) (λ is. tt);
   };
 }
 
-pub returns-in-Ok-false : goal.returns-in-Ok-false
-returns-in-Ok-false g c = record {
+pub returns-else-branch : goal.returns-else-branch
+returns-else-branch g c = record {
   examined = record {
     same_reference = search rules;
     says =
         let old = state g.S.Store c.args.tx.now.conn.now in
         let new = state g.S.Store c.are_numbered.new.tx.conn.now in
-        let Wrong : Trees → Type 0 = λ db. AreNumbered (table_called c.args.table) db → ⊥ in
-        examines_as Wrong Wrong old new _ (Err Damaged) _ (λ db _. AreNumbered (table_called c.args.table) db)
-        (examines_looks Wrong old new _ _ (looks_of old new (Ok _) _ (reads_where (HasTable c.args.table) HasLayout old new _ _ (has_table c.args.table old.now) c.in-Ok-false.ensures.read.says)))
-        (λ is. tt) (λ is numbered. false≢true (sym c.in-Ok-false.field-0-test ∙ is.1 numbered));
+        examines_as Never (λ db. AreNumbered (table_called c.args.table) db → ⊥) old new _ (Err Damaged) _ (λ db _. AreNumbered (table_called c.args.table) db)
+        (examined c.args.table old new (Ok _) _ c.in_ok-are_numbered.ensures.read.says c.in_ok-are_numbered.ensures.err c.in_ok-are_numbered.ensures.medium) (λ is. tt) (λ is numbered. false≢true (sym c.if-branch.false ∙ is.1 numbered));
   };
 }
 
-pub returns-in-Err : goal.returns-in-Err
-returns-in-Err g c = record {
+pub returns-in_err-are_numbered : goal.returns-in_err-are_numbered
+returns-in_err-are_numbered g c = record {
   examined = record {
     same_reference = search rules;
     says =
         let old = state g.S.Store c.args.tx.now.conn.now in
         let new = state g.S.Store c.are_numbered.new.tx.conn.now in
-        examines_failed {X = Bool} (λ db. AreNumbered (table_called c.args.table) db → ⊥) old new c.in-Err.fault c.fault_of_reading.result _ _
-        (looks_of old new (Err c.in-Err.fault) _ (reads_where (HasTable c.args.table) HasLayout old new _ _ (has_table c.args.table old.now) c.in-Err.ensures.read.says))
-        (λ inside clean has. c.in-Err.ensures.medium clean (has_table c.args.table old.now has)) c.fault_of_reading.ensures.value;
+        examines_not {X = Bool} Never (λ db. AreNumbered (table_called c.args.table) db → ⊥) old new _ c.from_residual.result _ (λ db _. AreNumbered (table_called c.args.table) db)
+        (examined {X = Bool} c.args.table old new (Err _) _ c.in_err-are_numbered.ensures.read.says c.in_err-are_numbered.ensures.err c.in_err-are_numbered.ensures.medium) c.from_residual.ensures.1 (λ never. absurd never);
   };
 }

@@ -11,7 +11,7 @@ use Rattle.society_book.specs.Kept.{HoldsOwnBook}
 use Rattle.book_audit.specs.Audited.{IsRegistered}
 use Rattle.book_audit.specs.Examining.{HoldsNot}
 use Rattle.society_opening.specs.Opening.{open_fault_by}
-use Rattle.society_opening.proofs.lemmas.opened.Passing.{clean_before}
+use Rattle.society_book.proofs.lemmas.together.StepLemmas.{was_clean}
 use Rattle.society_opening.proofs.lemmas.opened.OpenTold.{damaged_so, there_by, told_judged, told_on, undamaged}
 use Rattle.society_opening.proofs.lemmas.taking.OverLemmas.{over_examined, over_fails, over_not, over_retold, over_then, over_where}
 use Rattle.society_opening.proofs.lemmas.taking.WritingFaults.{aside_by, failed_by, store_of}
@@ -58,7 +58,7 @@ returns-in_err-office_agrees-clause-err g c clean inside has =
 
 pub returns-in_err-examine_whole-clause-err : goal.returns-in_err-examine_whole-clause-err
 returns-in_err-examine_whole-clause-err g c clean inside has =
-    let before = clean_before _ _ c.in_err-examine_whole.ensures.examined.says.survives clean in
+    let before = was_clean _ _ c.in_err-examine_whole.ensures.examined.says.does.survives clean in
     told_judged 3 c.args.office.now _ c.in_err-examine_whole.field-0.0 c.from_residual-in_err-examine_whole.result (c.in_ok-office_agrees.ensures.finds.says.says before inside (has_table name.Office _ has)).1 c.from_residual-in_err-examine_whole.ensures.1
 
 pub returns-in_err-office_agrees-clause-damaged : goal.returns-in_err-office_agrees-clause-damaged
@@ -70,7 +70,7 @@ returns-in_err-examine_whole-clause-damaged g c clean inside has =
     let new = state g.S.Store c.examine_whole.new.tx.conn.now in
     let o = c.args.office.now in
     let finds = c.in_ok-office_agrees.ensures.finds.says in
-    let before = clean_before mid new c.in_err-examine_whole.ensures.examined.says.survives clean in
+    let before = was_clean mid new c.in_err-examine_whole.ensures.examined.says.does.survives clean in
     let said = finds.says before inside (has_table name.Office _ has) in
     let says = c.in_err-examine_whole.ensures.examined.says.faults clean (finds.inside before inside) (subst HasLayout (sym said.0) has) in
     damaged_so _ c.in_err-examine_whole.field-0.0 c.from_residual-in_err-examine_whole.result c.from_residual-in_err-examine_whole.ensures.1
@@ -88,11 +88,11 @@ returns-in_err-examine_whole-clause-medium g c inside clean has =
     let new = state g.S.Store c.examine_whole.new.tx.conn.now in
     let f = c.in_err-examine_whole.field-0.0 in
     let finds = c.in_ok-office_agrees.ensures.finds.says in
-    let before = clean_before mid new c.in_err-examine_whole.ensures.examined.says.survives clean in
+    let before = was_clean mid new c.in_err-examine_whole.ensures.examined.says.does.survives clean in
     let said = finds.says before inside (has_table name.Office _ has) in
     let says = c.in_err-examine_whole.ensures.examined.says.faults clean (finds.inside before inside) (subst HasLayout (sym said.0) has) in
     failed_by (MayFail old new) (open_fault_by f) c.from_residual-in_err-examine_whole.result c.from_residual-in_err-examine_whole.ensures.1
-    (λ err. may_on old mid new finds.survives before c.in_err-examine_whole.ensures.examined.says.survives.counts (store_of (HoldsNot c.args.office.now) mid new f says err))
+    (λ err. may_on old mid new finds.survives before c.in_err-examine_whole.ensures.examined.says.does.survives.counts (store_of (HoldsNot c.args.office.now) mid new f says err))
 
 pub returns-in_err-examine_whole-clause-there : goal.returns-in_err-examine_whole-clause-there
 returns-in_err-examine_whole-clause-there g c = there_by c.in_err-examine_whole.field-0.0 c.from_residual-in_err-examine_whole.result c.from_residual-in_err-examine_whole.ensures.1

@@ -2,7 +2,7 @@ use Rattle.std.proofs.Common.{rules}
 use Rattle.sqlite.specs.Held.{state}
 use Rattle.book_audit.specs.Audited.{IsNumbered}
 use Rattle.book_audit.specs.Examining.{HoldsNot}
-use Rattle.book_audit.proofs.lemmas.Examinations.{examines_not, examines_then}
+use Rattle.society_book.proofs.lemmas.together.JudgedLemmas.{examines_not, examines_then}
 use Rattle.society_opening.proofs.examining.examine_whole.Goals as goal
 
 pub returns : goal.returns

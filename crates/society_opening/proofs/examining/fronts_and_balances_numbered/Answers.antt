@@ -3,7 +3,7 @@ use Rattle.sqlite.specs.Held.{state}
 use Rattle.society_rows.specs.Layout as layout
 use Rattle.society_rows.specs.Stored.{AreNumbered}
 use Rattle.book_audit.specs.Audited.{IsNumbered}
-use Rattle.book_audit.proofs.lemmas.Examinations.{examines_not, examines_then}
+use Rattle.society_book.proofs.lemmas.together.JudgedLemmas.{examines_not, examines_then}
 use Rattle.society_opening.proofs.examining.fronts_and_balances_numbered.Goals as goal
 
 pub returns : goal.returns

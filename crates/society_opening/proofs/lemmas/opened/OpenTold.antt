@@ -25,22 +25,34 @@ use Rattle.society_opening.specs.Older.{HoldsOlder, HoldsOne, office_row_under}
 use Rattle.society_opening.specs.Reading.{reading_fault_by}
 use Rattle.society_opening.specs.Opening.{IsDamagedOlder, IsOneOffice, IsOutside, TellsDatabase, TellsOffice, TellsOfficeIn, open_fault_by}
 use Rattle.society_rows.proofs.lemmas.definitions.FirstTables.{first_long, has_tables}
-use Rattle.book_audit.specs.declared.audit_fault.AuditFault.{AuditFault}
-use Rattle.book_audit.specs.declared.audit_fault.AuditFault.TheVariants as audit
 use Rattle.society_opening.specs.declared.open_fault.OpenFault.{OpenFault}
 use Rattle.society_opening.specs.declared.open_fault.OpenFault.TheVariants as fault
 use Rattle.society_book.proofs.lemmas.shown.AskLemmas.{first_true, second_true}
 use Rattle.society_opening.proofs.lemmas.taking.SameTables.{all_pass}
-use Rattle.society_opening.proofs.lemmas.opened.Passing.{IsAside, failed_aside}
+use Rattle.society_opening.proofs.lemmas.opened.Passing.{IsAside}
 use Rattle.society_book.proofs.lemmas.rows_alike.RowLemmas.{one_else}
 
 -- a failed statement says nothing of the office
-pub failed_office : (n : ℕ) (o : Office) (rows : List Row) (e : RowFault) → TellsOffice n o rows (open_fault_by (reading_fault_by e))
-failed_office n o rows row.Memory = tt
-failed_office n o rows row.Schema = tt
-failed_office n o rows row.Unread = tt
-failed_office n o rows row.Overflow = tt
-failed_office n o rows (row.Refused error) = tt
+pub told_failed : (n : ℕ) (o : Office) (rows : List Row) (f : RowFault) (e : OpenFault) → e ≡ reading_fault_by f → TellsOffice n o rows e
+told_failed n o rows f e is = subst (TellsOffice n o rows) (sym is) (by_fault f)
+  where
+    by_fault : (f : RowFault) → TellsOffice n o rows (reading_fault_by f)
+    by_fault row.Memory = tt
+    by_fault row.Schema = tt
+    by_fault row.Damaged = tt
+    by_fault row.Overflow = tt
+    by_fault (row.Refused error) = tt
+
+-- nor of anything that the database has
+pub outside_failed : (f : RowFault) (e : OpenFault) → e ≡ reading_fault_by f → IsOutside e
+outside_failed f e is = subst IsOutside (sym is) (by_fault f)
+  where
+    by_fault : (f : RowFault) → IsOutside (reading_fault_by f)
+    by_fault row.Memory = tt
+    by_fault row.Schema = tt
+    by_fault row.Damaged = tt
+    by_fault row.Overflow = tt
+    by_fault (row.Refused error) = tt
 
 pub outside_told : (o : Office) (db : Database) (e : OpenFault) → IsOutside e → TellsDatabase o db e
 outside_told o db fault.Memory outside = tt
@@ -55,20 +67,24 @@ abbrev is_empty : OpenFault → Bool
 is_empty fault.Empty = true
 is_empty _ = false
 
-opened_there : (f : AuditFault) → open_fault_by f ≢ fault.Empty
-opened_there audit.Memory is = absurd (false≢true (ap is_empty is))
-opened_there audit.Store is = absurd (false≢true (ap is_empty is))
-opened_there audit.Damaged is = absurd (false≢true (ap is_empty is))
+opened_there : (f : RowFault) → open_fault_by f ≢ fault.Empty
+opened_there row.Memory is = absurd (false≢true (ap is_empty is))
+opened_there row.Schema is = absurd (false≢true (ap is_empty is))
+opened_there row.Damaged is = absurd (false≢true (ap is_empty is))
+opened_there row.Overflow is = absurd (false≢true (ap is_empty is))
+opened_there (row.Refused error) is = absurd (false≢true (ap is_empty is))
 
-pub there_by : (f : AuditFault) (r : Result (Unit {0}) OpenFault) → IsErrAnd r (λ e. e ≡ open_fault_by f) → IfErr r (λ e. e ≢ fault.Empty)
+pub there_by : (f : RowFault) (r : Result (Unit {0}) OpenFault) → IsErrAnd r (λ e. e ≡ open_fault_by f) → IfErr r (λ e. e ≢ fault.Empty)
 there_by f (Ok x) h = tt
 there_by f (Err e) h = λ is. opened_there f (sym h ∙ is)
 
 -- rows that do not pass are still this office's
-pub audited_office : (n : ℕ) (o : Office) (rows : List Row) (f : AuditFault) → rows ≡ office_row_under n o ∷ [] → TellsOffice n o rows (open_fault_by f)
-audited_office n o rows audit.Memory is = tt
-audited_office n o rows audit.Store is = tt
-audited_office n o rows audit.Damaged is = is
+pub audited_office : (n : ℕ) (o : Office) (rows : List Row) (f : RowFault) → rows ≡ office_row_under n o ∷ [] → TellsOffice n o rows (open_fault_by f)
+audited_office n o rows row.Memory is = tt
+audited_office n o rows row.Schema is = is
+audited_office n o rows row.Damaged is = is
+audited_office n o rows row.Overflow is = tt
+audited_office n o rows (row.Refused error) is = tt
 
 -- one office in any order of the rows is one office
 one_likewise : (n : ℕ) (one two : List Row) → IsPermutation one two → IsOneOffice n one → IsOneOffice n two
@@ -99,12 +115,8 @@ pub told_listed : (n : ℕ) (o : Office) (db : Trees) (rows : List Row) (width :
 told_listed n o db rows width (Ok x) lists err = tt
 told_listed n o db rows width (Err e) lists err = told_likewise n o (rows_in layout.office db) rows e (any_order db rows width lists) err
 
--- what is said of the office when a statement fails, and when rows do not pass
-pub told_failed : (n : ℕ) (o : Office) (rows : List Row) (f : RowFault) (r : Result (Unit {0}) OpenFault) → IsErrAnd r (λ e. e ≡ open_fault_by (reading_fault_by f)) → IfErr r (TellsOffice n o rows)
-told_failed n o rows f (Ok x) h = tt
-told_failed n o rows f (Err e) h = subst (TellsOffice n o rows) (sym h) (failed_office n o rows f)
-
-pub told_judged : (n : ℕ) (o : Office) (rows : List Row) (f : AuditFault) (r : Result (Unit {0}) OpenFault) → rows ≡ office_row_under n o ∷ [] → IsErrAnd r (λ e. e ≡ open_fault_by f) → IfErr r (TellsOffice n o rows)
+-- what is said of the office when rows do not pass
+pub told_judged : (n : ℕ) (o : Office) (rows : List Row) (f : RowFault) (r : Result (Unit {0}) OpenFault) → rows ≡ office_row_under n o ∷ [] → IsErrAnd r (λ e. e ≡ open_fault_by f) → IfErr r (TellsOffice n o rows)
 told_judged n o rows f (Ok x) is h = tt
 told_judged n o rows f (Err e) is h = subst (TellsOffice n o rows) (sym h) (audited_office n o rows f is)
 
@@ -216,17 +228,15 @@ abbrev is_damage : OpenFault → Bool
 is_damage fault.Damaged = true
 is_damage _ = false
 
-pub not_damaged : (f : AuditFault) → IsAside f → open_fault_by f ≡ fault.Damaged → ⊥
-not_damaged audit.Memory aside is = absurd (false≢true (ap is_damage is))
-not_damaged audit.Store aside is = absurd (false≢true (ap is_damage is))
-not_damaged audit.Damaged aside is = absurd aside
-
-pub failed_not_damaged : (f : RowFault) (r : Result (Unit {0}) OpenFault) → IsErrAnd r (λ e. e ≡ open_fault_by (reading_fault_by f)) → IfErr r (λ e. e ≢ fault.Damaged)
-failed_not_damaged f (Ok x) h = tt
-failed_not_damaged f (Err e) h = λ is. not_damaged (reading_fault_by f) (failed_aside f) (sym h ∙ is)
+pub not_damaged : (f : RowFault) → IsAside f → open_fault_by f ≡ fault.Damaged → ⊥
+not_damaged row.Memory aside is = absurd (false≢true (ap is_damage is))
+not_damaged row.Schema aside is = absurd aside
+not_damaged row.Damaged aside is = absurd aside
+not_damaged row.Overflow aside is = absurd (false≢true (ap is_damage is))
+not_damaged (row.Refused error) aside is = absurd (false≢true (ap is_damage is))
 
 -- damage is told where the rows do not hold what they should
-pub damaged_so : (H : Type 0) (f : AuditFault) (r : Result (Unit {0}) OpenFault) → IsErrAnd r (λ e. e ≡ open_fault_by f) → (H → IsAside f) → IfErr r (λ e. e ≡ fault.Damaged → ¬ H)
+pub damaged_so : (H : Type 0) (f : RowFault) (r : Result (Unit {0}) OpenFault) → IsErrAnd r (λ e. e ≡ open_fault_by f) → (H → IsAside f) → IfErr r (λ e. e ≡ fault.Damaged → ¬ H)
 damaged_so H f (Ok x) h aside = tt
 damaged_so H f (Err e) h aside = λ is holds. not_damaged f (aside holds) (sym h ∙ is)
 

@@ -2,17 +2,15 @@
 use Rattle.std.proofs.Common.{◌≡◌, Result, Ok, Err, IfOk, IsErr, OnOk}
 use Rattle.std.proofs.lemmas.Bool.{false≢true}
 use Rattle.sqlite.proofs.InsideLemmas.{keeps_then}
-use Rattle.sqlite.proofs.StateLemmas.{survives_then}
 use Rattle.sqlite.specs.Effect.{Database}
-use Rattle.sqlite.specs.State.{IsUnchanged, State, Survives}
+use Rattle.sqlite.specs.State.{IsUnchanged, State}
 use Rattle.sqlite_trees.specs.Tree.{Trees}
 use Rattle.society_rows.specs.Effects.{WritesOver}
 use Rattle.society_rows.specs.Reads.{ReadsOver}
 use Rattle.society_rows.specs.Stored.{HasLayout}
 use Rattle.society_rows.specs.declared.fault.RowFault.{RowFault}
-use Rattle.society_book.proofs.lemmas.together.StepLemmas.{more}
-use Rattle.society_opening.proofs.lemmas.opened.Passing.{clean_before}
-use Rattle.book_audit.specs.Examining.{Examines}
+use Rattle.society_book.proofs.lemmas.together.StepLemmas.{more, survives_on, was_clean}
+use Rattle.society_book.specs.Steps.{Examines}
 use Rattle.share_rules.specs.declared.office.Office.{Office}
 use Rattle.society_rows.specs.Layouts.{HasOlder, HasTable, number_of}
 use Rattle.society_rows.specs.declared.older.OlderLayout.{OlderLayout}
@@ -21,19 +19,24 @@ use Rattle.society_opening.specs.declared.open_fault.OpenFault.{OpenFault}
 use Rattle.society_opening.proofs.lemmas.opened.OpenTold.{has_office}
 use Rattle.society_opening.specs.TakingOver.{DoesOver, IsOffice}
 use Rattle.book_derivation.specs.Deriving.{Derives, KeepsOwn}
-use Rattle.book_audit.specs.declared.audit_fault.AuditFault.{AuditFault}
-
-survives_on : (old mid new : State) → Survives old mid (λ _. ⊥) → Survives mid new (λ _. ⊥) → Survives old new (λ _. ⊥)
-survives_on old mid new = survives_then old mid new (λ _. ⊥) (λ _. ⊥) (λ _. ⊥) (λ clean db never. never) (λ clean db never. never)
 
 on_ok : {X E : Type 0} (r : Result X E) {P : Type 0} → P → OnOk r P
 on_ok (Ok x) h = h
 on_ok (Err e) h = tt
 
 -- statements that write what is derived
-pub over_derives : {X : Type 0} (Wrong : Trees → Type 0) (old new : State) (r : Result X AuditFault) (Says : Trees → Trees → X → Type 0) → Derives Wrong old new r Says
+pub over_derives : {X : Type 0} (Wrong : Trees → Type 0) (old new : State) (r : Result X RowFault) (Says : Trees → Trees → X → Type 0) → Derives Wrong old new r Says
     → DoesOver HasLayout old new r (λ before after x. HasLayout after × KeepsOwn before.trees after.trees × Says before.trees after.trees x)
-over_derives Wrong old new r Says derives = record { says = derives.says; inside = derives.inside; kept = derives.kept; survives = derives.survives }
+over_derives {X} Wrong old new r Says derives = record {
+  says = λ clean inside has. laid r (derives.does.layout clean inside has) (derives.does.says clean inside has);
+  inside = derives.does.inside;
+  kept = derives.does.kept;
+  survives = derives.does.survives;
+}
+  where
+    laid : (z : Result X RowFault) → OnOk z (HasLayout new.now) → IfOk z (λ x. KeepsOwn old.now.trees new.now.trees × Says old.now.trees new.now.trees x) → IfOk z (λ x. HasLayout new.now × KeepsOwn old.now.trees new.now.trees × Says old.now.trees new.now.trees x)
+    laid (Ok x) has says = (has, says.0, says.1)
+    laid (Err e) has says = tt
 
 pub over_writes : (Was : Database → Type 0) (old new : State) (r : Result (Unit {0}) RowFault) (Change : Database → Database → Type 0) → WritesOver Was old new r Change → DoesOver Was old new r (λ before after _. Change before after)
 over_writes Was old new r Change writes = record { says = λ clean inside was. says r (writes.change clean inside was); inside = writes.inside; kept = writes.kept; survives = writes.survives }
@@ -58,7 +61,7 @@ over_retold Was old new x A first = record { says = first.says; inside = first.i
 pub over_then : {X Y D E : Type 0} (Was Is : Database → Type 0) (old mid new : State) (x : X) (r : Result Y E) (A : Database → Database → X → Type 0) (B C : Database → Database → Y → Type 0) → DoesOver {E = D} Was old mid (Ok x) A
     → (Was old.now → A old.now mid.now x → Is mid.now) → DoesOver Is mid new r B → ((y : Y) → A old.now mid.now x → B mid.now new.now y → C old.now new.now y) → DoesOver Was old new r C
 over_then Was Is old mid new x r A B C first turns second follows =
-    let was = clean_before mid new second.survives in
+    let was = was_clean mid new second.survives in
     record {
       says = λ clean inside has.
           let said = first.says (was clean) inside has in
@@ -89,8 +92,8 @@ pub over_fails : {X Y Z D E F : Type 0} (Was Is : Database → Type 0) (old mid 
 over_fails Was Is old mid new x f r A B C first turns second is = over_not Was old new f r (λ _ _ _. Unit {0}) C (over_then Was Is old mid new x (Err f) A B (λ _ _ _. Unit {0}) first turns second (λ y one two. tt)) is
 
 -- what is examined is as it was
-pub over_examined : {X : Type 0} (Wrong : Trees → Type 0) (old new : State) (r : Result X AuditFault) (A : Trees → X → Type 0) → Examines Wrong old new r A → DoesOver HasLayout old new r (λ before after x. (after ≡ before) × A before.trees x)
-over_examined Wrong old new r A examined = record { says = examined.says; inside = examined.inside; kept = examined.kept; survives = examined.survives }
+pub over_examined : {X : Type 0} (Wrong : Trees → Type 0) (old new : State) (r : Result X RowFault) (A : Trees → X → Type 0) → Examines Wrong old new r A → DoesOver HasLayout old new r (λ before after x. (after ≡ before) × A before.trees x)
+over_examined Wrong old new r A examined = record { says = examined.does.says; inside = examined.does.inside; kept = examined.does.kept; survives = examined.does.survives }
 
 -- what is said of databases of a kind is said of those of a narrower one
 pub over_where : {X E : Type 0} (Was Is : Database → Type 0) (old new : State) (r : Result X E) (A : Database → Database → X → Type 0) → ((db : Database) → Is db → Was db) → DoesOver Was old new r A → DoesOver Is old new r A

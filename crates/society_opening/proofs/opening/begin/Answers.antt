@@ -1,8 +1,6 @@
 use Rattle.std.proofs.Common.{◌∙◌, ap, subst, sym}
 use Rattle.society_opening.specs.Opening.{IsOutside, open_fault_by}
-use Rattle.society_opening.proofs.lemmas.opened.Failing.{opened_store}
 use Rattle.society_opening.proofs.lemmas.taking.WritingFaults.{outside_writing, told_writing}
-use Rattle.book_derivation.specs.Writing.{writing_fault_by}
 use Rattle.society_opening.proofs.opening.begin.Goals as goal
 
 pub returns-in-Err-clause-crash : goal.returns-in-Err-clause-crash
@@ -16,4 +14,4 @@ returns-in-Err-clause-err g c = subst IsOutside (sym (c.from-in-Err.ensures ∙ 
 
 pub returns-in-Err-clause-medium : goal.returns-in-Err-clause-medium
 returns-in-Err-clause-medium g c clean err =
-    told_writing c.in-Err.fault (c.in-Err.ensures.blamed clean) (opened_store (writing_fault_by c.in-Err.fault) (sym (c.from-in-Err.ensures ∙ ap open_fault_by c.fault_of_writing.ensures.value) ∙ err))
+    told_writing c.in-Err.fault (c.in-Err.ensures.blamed clean) (sym (c.from-in-Err.ensures ∙ ap open_fault_by c.fault_of_writing.ensures.value) ∙ err)

@@ -4,10 +4,11 @@ use Rattle.society_rows.specs.Layouts.{HasOlder}
 use Rattle.society_rows.specs.Stored.{HasLayout}
 use Rattle.society_book.specs.BookRows.{book_of}
 use Rattle.society_opening.specs.TakingOver.{LacksRaised, StandsForNone}
-use Rattle.society_opening.proofs.lemmas.opened.Passing.{clean_before}
+use Rattle.society_book.proofs.lemmas.together.StepLemmas.{was_clean}
 use Rattle.society_opening.proofs.lemmas.taking.Completed.{can_complete, named_so, raised_so, stand_for}
 use Rattle.society_opening.proofs.lemmas.taking.OverLemmas.{over_derives, over_not, over_then, over_writes}
-use Rattle.society_opening.proofs.lemmas.taking.WritingFaults.{faults_on, says_writing}
+use Rattle.society_opening.proofs.lemmas.taking.WritingFaults.{faults_on}
+use Rattle.book_derivation.proofs.lemmas.Writes.{says_writing}
 use Rattle.society_opening.proofs.taking_over.take_inside.Goals as goal
 
 pub returns-in-Ok-clause-does : goal.returns-in-Ok-clause-does
@@ -40,9 +41,9 @@ returns-in-Ok-clause-faults g c clean inside was =
     let old = state g.S.Store c.args.tx.now.conn.now in
     let mid = state g.S.Store c.raise_inside.new.tx.conn.now in
     let new = state g.S.Store c.complete.new.tx.conn.now in
-    let before = clean_before mid new c.complete.ensures.derives.says.survives clean in
+    let before = was_clean mid new c.complete.ensures.derives.says.does.survives clean in
     let raised = c.in-Ok.ensures.raised.says.change before inside was in
-    faults_on (StandsForNone o l) (LacksRaised o l) old mid new c.complete.result c.in-Ok.ensures.raised.says.survives before c.complete.ensures.derives.says.survives.counts
+    faults_on (StandsForNone o l) (LacksRaised o l) old mid new c.complete.result c.in-Ok.ensures.raised.says.survives before c.complete.ensures.derives.says.does.survives.counts
     (λ lacks held. lacks (book_of held.new) (can_complete o l old.now.trees mid.now.trees raised.1 held)) (c.complete.ensures.derives.says.faults clean (c.in-Ok.ensures.raised.says.inside before inside) raised.0)
 
 pub returns-in-Err-clause-faults : goal.returns-in-Err-clause-faults

@@ -2,7 +2,7 @@ use Rattle.std.proofs.Common.{Ok, subst, sym, rules}
 use Rattle.sqlite.specs.Effect.{Database}
 use Rattle.sqlite.specs.Held.{state}
 use Rattle.society_rows.specs.Layouts.{HasOlder, number_of}
-use Rattle.society_opening.proofs.lemmas.opened.Passing.{clean_before}
+use Rattle.society_book.proofs.lemmas.together.StepLemmas.{was_clean}
 use Rattle.society_opening.specs.Older.{HoldsOlder}
 use Rattle.society_rows.specs.Effects.{MayFail}
 use Rattle.society_opening.specs.Opening.{open_fault_by}
@@ -49,7 +49,7 @@ returns-in_err-office_agrees-clause-err g c clean inside was =
 
 pub returns-in_err-take_inside-clause-err : goal.returns-in_err-take_inside-clause-err
 returns-in_err-take_inside-clause-err g c clean inside was =
-    let mid = clean_before _ _ c.in_err-take_inside.ensures.does.says.survives clean in
+    let mid = was_clean _ _ c.in_err-take_inside.ensures.does.says.survives clean in
     told_judged (number_of c.args.layout) c.args.office.now _ c.in_err-take_inside.field-0.0 c.from_residual-in_err-take_inside.result ((rw c.number.ensures at c.in_ok-office_agrees.ensures.finds.says).says mid inside (has_office c.args.layout _ was)).1 c.from_residual-in_err-take_inside.ensures.1
 
 pub returns-in_err-office_agrees-clause-damaged : goal.returns-in_err-office_agrees-clause-damaged
@@ -58,7 +58,7 @@ returns-in_err-office_agrees-clause-damaged g c clean inside was = undamaged _ c
 pub returns-in_err-take_inside-clause-damaged : goal.returns-in_err-take_inside-clause-damaged
 returns-in_err-take_inside-clause-damaged g c clean inside was =
     let l = c.args.layout in
-    let mid = clean_before _ _ c.in_err-take_inside.ensures.does.says.survives clean in
+    let mid = was_clean _ _ c.in_err-take_inside.ensures.does.says.survives clean in
     let said = c.in_ok-office_agrees.ensures.finds.says.says mid inside (has_office l _ was) in
     let says = c.in_err-take_inside.ensures.faults clean (c.in_ok-office_agrees.ensures.finds.says.inside mid inside) (subst (HasOlder l) (sym said.0) was) in
     damaged_so _ c.in_err-take_inside.field-0.0 c.from_residual-in_err-take_inside.result c.from_residual-in_err-take_inside.ensures.1
@@ -75,7 +75,7 @@ returns-in_err-take_inside-clause-medium g c inside clean was =
     let mid = state g.S.Store c.office_agrees.new.tx.conn.now in
     let new = state g.S.Store c.take_inside.new.tx.conn.now in
     let f = c.in_err-take_inside.field-0.0 in
-    let before = clean_before _ _ c.in_err-take_inside.ensures.does.says.survives clean in
+    let before = was_clean _ _ c.in_err-take_inside.ensures.does.says.survives clean in
     let finds = c.in_ok-office_agrees.ensures.finds.says in
     let said = finds.says before inside (has_office l _ was) in
     let says = c.in_err-take_inside.ensures.faults clean (finds.inside before inside) (subst (HasOlder l) (sym said.0) was) in

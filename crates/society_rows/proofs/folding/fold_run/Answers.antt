@@ -1,5 +1,5 @@
 use Rattle.std.proofs.Common.{◌∙◌, ◌+◌, Err, IfErr, Result, Ok, ◌⊎◌, inl, inr, length, refl, sym, ap, arith, rules}
-use Rattle.society_rows.specs.declared.fault.RowFault.TheVariants.{Unread}
+use Rattle.society_rows.specs.declared.fault.RowFault.TheVariants.{Damaged}
 use Rattle.society_rows.proofs.lemmas.readings.RowFolds.{err_as}
 use Rattle.society_rows.proofs.lemmas.readings.Alike.{only_one}
 use Rattle.society_rows.proofs.lemmas.readings.RunFolds.{no_run_doubled, no_run_filled, none_there, runs_to_first, runs_on, run_by_medium, run_doubled, run_ends, run_fills, run_overflows, run_refused, run_refuses, run_stops, run_told}
@@ -29,7 +29,7 @@ returns-clause-taken g c = record {
   same_reference = search rules;
   says =
       run_overflows g.S.Store g.F.RowFold.step c.args.sender.now c.args.tx.now.conn.now c.loop-number.tx.conn.now c.args.first c.loop-number.number c.args.into.now c.loop-number.into
-      (omega (arith, c.loop-number-test.false, c.ranges.first.fits)) c.loop-number.invariant.taken Unread _;
+      (omega (arith, c.loop-number-test.false, c.ranges.first.fits)) c.loop-number.invariant.taken Damaged _;
 }
 
 pub returns-in_err-take-in-len1-clause-err : goal.returns-in_err-take-in-len1-clause-err

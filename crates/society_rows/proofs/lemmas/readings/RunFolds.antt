@@ -14,7 +14,7 @@ use Rattle.sqlite.proofs.Callers.{unchanged_then}
 use Rattle.sqlite.proofs.InsideLemmas.{keeps_then}
 use Rattle.sqlite.proofs.StateLemmas.{survives_then}
 use Rattle.society_rows.specs.declared.fault.RowFault.{RowFault}
-use Rattle.society_rows.specs.declared.fault.RowFault.TheVariants.{Unread}
+use Rattle.society_rows.specs.declared.fault.RowFault.TheVariants.{Damaged}
 use Rattle.society_rows.specs.Effects.{ErrsByMedium, MayFail, OnlyFails}
 use Rattle.society_rows.specs.Faults.{IsFailure}
 use Rattle.society_rows.specs.Folds.{ReadsInside, HasTaken, AreFirstOfRun, AreDoubled, AreFrom, IsNoRun, IsRun, RefusesRow, StopsRun}
@@ -169,7 +169,7 @@ module _ {S : Type 0} (g : Ghosts S) {F : Type 0} (step : F → Row → F) (send
         } in
         λ clean has. inl (there clean has)
 
-    pub run_doubled : (refusal : F → Row → RowFault → Type 0) → 2 ≤ length rows.items → StopsRun step refusal (state g old) (state g new) sender first begun Unread
+    pub run_doubled : (refusal : F → Row → RowFault → Type 0) → 2 ≤ length rows.items → StopsRun step refusal (state g old) (state g new) sender first begun Damaged
     run_doubled refusal several = record { why = inr (inr (refl, no_run_doubled several)) }
 
     pub run_ends : rows.items ≡ [] → ReadsInside {X = Unit {0}} (state g old) (state g new) (Ok tt) (λ db _. HasTaken step (IsRun sender first db) begun now)
@@ -209,7 +209,7 @@ no_run_filled g step sender old new first number begun now all run =
     λ clean has. inr (record { rows = gone.rows; each = gone.these.1 clean has; full = gone.these.0 ∙ all })
 
 pub run_fills : {S : Type 0} (g : Ghosts S) {F : Type 0} (step : F → Row → F) (refusal : F → Row → RowFault → Type 0) (sender : List ℕ) (old new : Held S) (first number : ℕ) (begun now : F) → number ≡ 2 ^ 32
-    → HasRunTo g step sender old new first number begun now → StopsRun step refusal (state g old) (state g new) sender first begun Unread
+    → HasRunTo g step sender old new first number begun now → StopsRun step refusal (state g old) (state g new) sender first begun Damaged
 run_fills g step refusal sender old new first number begun now all run =
     record { why = inr (inr (refl, no_run_filled g step sender old new first number begun now all run)) }
 

@@ -4,7 +4,7 @@ use Rattle.std.specs.List.{list_all}
 use Rattle.sqlite.specs.Held.{state}
 use Rattle.society_core.specs.Book.{is_applied}
 use Rattle.society_core.specs.declared.transmission_key.TransmissionKey.{TransmissionKey}
-use Rattle.book_audit.proofs.lemmas.Examinations.{examines_as, examines_not, examines_then}
+use Rattle.society_book.proofs.lemmas.together.JudgedLemmas.{examines_as, examines_not, examines_then}
 use Rattle.book_audit.specs.Standing.{HoldsNoLines, KnowsReach, OfLines, TellsCut}
 use Rattle.book_audit.proofs.lemmas.orders.Steps.{one_fails, one_passes}
 use Rattle.book_audit.proofs.reached.Reached.are_in_line.Goals as goal

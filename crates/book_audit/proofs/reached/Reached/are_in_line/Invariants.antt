@@ -2,7 +2,7 @@ use Rattle.std.proofs.Common.{◌≡◌, Ok, take, true}
 use Rattle.std.specs.List.{list_all}
 use Rattle.sqlite.specs.Held.{state}
 use Rattle.society_core.specs.Book.{is_applied}
-use Rattle.book_audit.specs.Examining.{Examines}
+use Rattle.society_book.specs.Steps.{Examines}
 use Rattle.book_audit.specs.Standing.{HoldsNoLines, KnowsReach, OfLines}
 use Rattle.book_audit.proofs.reached.Reached.are_in_line.Given as goal
 

@@ -1,6 +1,6 @@
 use Rattle.std.proofs.Common.{Ok, rules}
 use Rattle.sqlite.specs.Held.{state}
-use Rattle.book_audit.proofs.lemmas.Examinations.{examines_as}
+use Rattle.society_book.proofs.lemmas.together.JudgedLemmas.{examines_as}
 use Rattle.book_audit.specs.Standing.{HoldsNoLines, IsReach, LearnsReach}
 use Rattle.book_audit.proofs.lemmas.orders.Lines.{learned}
 use Rattle.book_audit.proofs.reached.Reached.learn.Goals as goal

@@ -1,9 +1,8 @@
 use Rattle.std.proofs.Common.{◌∙◌, ◌≤◌, List, ℕ, Ok, ap, bytes_eq, flat_map, length, subst, sym, rules}
 use Rattle.std.specs.List.{list_any}
-use Rattle.society_book.proofs.lemmas.together.ErrLemmas.{errs_as, errs_on}
+use Rattle.society_book.proofs.lemmas.together.ErrLemmas.{blames_memory, errs_as, errs_on}
 use Rattle.society_book.proofs.lemmas.together.StepLemmas.{looks_as}
 use Rattle.society_closings.proofs.lemmas.cuts.CutLists.{wants_alike}
-use Rattle.society_closings.proofs.lemmas.cuts.FaultLemmas.{blames_memory}
 use Rattle.society_closings.specs.Blamed.{LackReturns}
 use Rattle.society_closings.specs.CutWorks.{Wants}
 use Rattle.society_core.specs.Candidates.{rows_of_return}

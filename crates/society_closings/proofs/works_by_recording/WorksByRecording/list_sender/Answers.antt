@@ -2,10 +2,10 @@ use Rattle.std.proofs.Common.{Ok, [], ◌∷◌, Err, rules}
 use Rattle.std.specs.List.{AllByRecursion}
 use Rattle.std.specs.Prelude.{Vec}
 use Rattle.std.specs.declared.alloc.Global.{Global}
-use Rattle.society_book.proofs.lemmas.together.ErrLemmas.{errs_as, errs_of, errs_on}
+use Rattle.society_book.proofs.lemmas.together.ErrLemmas.{blames_on, errs_as, errs_of, errs_on}
 use Rattle.society_book.proofs.lemmas.together.StepLemmas.{looks_as, looks_of}
 use Rattle.society_closings.proofs.lemmas.cuts.CutLists.{sender_listed}
-use Rattle.society_closings.proofs.lemmas.cuts.FaultLemmas.{blames_on, listed_hold}
+use Rattle.society_closings.proofs.lemmas.cuts.FaultLemmas.{listed_hold}
 use Rattle.society_closings.proofs.lemmas.cuts.ReadRows.{recordings_readable}
 use Rattle.society_closings.specs.Blamed.{HoldNoWorks}
 use Rattle.society_closings.specs.Readable.{IsRecordingRow}
@@ -38,5 +38,5 @@ returns-in_err-list_rows-clause-err g c =
     let new = state g.S.Store c.answer.new.tx.conn.now in
     let rows = c.as_slice.result.now in
     errs_as HoldNoWorks old new c.in_ok-rows.rows c.from_residual-in_err-list_rows.result _ (looks_of old new (Ok c.in_ok-rows.rows) _ c.in_ok-rows.ensures.read.says)
-    (λ lists. blames_on (AllByRecursion IsRecordingRow rows → ⊥) (HoldNoWorks old.now.trees) _ c.from_residual-in_err-list_rows.result c.in_err-list_rows.ensures.blames c.from_residual-in_err-list_rows.ensures.1
+    (λ lists. blames_on c.from_residual-in_err-list_rows.result _ (AllByRecursion IsRecordingRow rows → ⊥) (HoldNoWorks old.now.trees) c.from_residual-in_err-list_rows.ensures.1 c.in_err-list_rows.ensures.blames
     (λ no o b holds. no (listed_hold IsRecordingRow layout.recordings (has_key (Text c.as_bytes.result.now ∷ [])) 4 old.now.trees _ rows lists c.as_slice.ensures.value (recordings_readable o b old.now.trees holds))))
