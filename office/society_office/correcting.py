@@ -23,7 +23,7 @@ from society_office.orders import LARGEST_AMOUNT, Order, changed_cut, free_pool,
 from society_office.program import Office, Trial, trial_office
 from society_office.records import UNCLAIMED
 from society_office.return_names import Entry, Return, are_listed, names_text
-from society_office.settling import next_number, refuse_open, settled_of
+from society_office.settling import Units, next_number, refuse_open, settled_of
 from society_office.splitting import split
 from society_office.stored_returns import Stored, corrections, stored_returns
 
@@ -184,7 +184,7 @@ def correct(program: str, copy: Copy, pool: int, changes: Changes, void: Sequenc
     before = followers(stored, pool)
     paid, holdings = paid_by(copy, [pool, *before]), Holdings(copy, dict(should.cut), should.kind)
     remarks = remarks_on(copy, pool, should, stored)
-    if moved := move_settled(paid, settled_of(copy, stored, void, pool).get(pool, {}), holdings):
+    if moved := move_settled(paid, sum(settled_of(copy, stored, void, pool).get(pool, {}).values(), Units()), holdings):
         if should.kind != order_of(copy, pool).kind:
             raise OfficeError(
                 f"rounds of settling have paid {moved:,} units of this pool in its right: --kind can't be told apart from that"

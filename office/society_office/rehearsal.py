@@ -10,14 +10,14 @@ from typing import Any
 
 from society_office import faults
 from society_office.copy import Copy, open_copy
-from society_office.follow_ups import SETTLED
+from society_office.follow_ups import corrected_by
 from society_office.numbering import as_sent, rank_of
 from society_office.orders import free_pool
 from society_office.plays import BOM
 from society_office.program import Answer, trial_of
 from society_office.return_names import Entry, Return, are_listed, names_text
 from society_office.settling import is_open
-from society_office.stored_returns import Stored, far_ones, same_plays, stored_returns
+from society_office.stored_returns import Stored, are_of_one_copy, far_ones, same_plays, stored_returns
 
 # A pool that was closed by this order before, and one that is closed by it now.
 REPEATED, NEW = 200, 201
@@ -96,13 +96,25 @@ def notes_on_returns(
     yield from far_ones(plays, stored, void)
     if own:
         yield from notes_on_own(then, pool, order["amount"], plays, own)
-        if rivals := [it.key for it in stored.values() if not are_listed(void, it.key) and any(is_rival(it, one) for one in own)]:
-            yield f"{names_text(rivals)} was written over the same copy and may pay the same units: of the two only one may be paid"
+        if others := rivals(own, stored, then.rights(), order.get("kind", "PR"), void):
+            yield f"{names_text(others)} was written over the same copy and may pay the same units: of the two only one may be paid"
 
 
-def is_rival(it: Stored, other: Stored) -> bool:
-    """Whether of two returns one settles and one corrects, and neither was written after the other was stored, as their numbers tell."""
-    return not it.is_play and it.number == other.number and (it.reporter == SETTLED) != (other.reporter == SETTLED)
+def rivals(
+    own: Sequence[Stored], stored: Mapping[Return, Stored], rights: Mapping[int, str], kind: str, void: Sequence[Entry]
+) -> list[Return]:
+    """The returns that may pay the units that these pay, in an order of this kind: neither knew of the other when it was written."""
+
+    def is_rival(it: Stored, one: Stored) -> bool:
+        return are_of_one_copy(it, one, stored) and right_of(it, rights) in ("", right_of(one, rights, kind))
+
+    others = (it for it in stored.values() if it.points and (it.pool or not are_listed(void, it.key)))
+    return [it.key for it in others if any(is_rival(it, one) for one in own)]
+
+
+def right_of(it: Stored, rights: Mapping[int, str], kind: str = "") -> str:
+    """The right of the pools whose money a return of the office itself pays; of a round that no pool has paid, the one that is given."""
+    return rights.get(corrected_by(it.reporter) or it.pool, kind)
 
 
 def is_own(named: Sequence[Stored]) -> bool:

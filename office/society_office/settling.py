@@ -11,11 +11,11 @@ from collections.abc import Iterable, Iterator, Mapping, Sequence
 from society_office.claims import Claims
 from society_office.copy import Copy
 from society_office.errors import OfficeError
-from society_office.follow_ups import SETTLED, corrected_by, is_follow_up, returns_of, rights_first, within
+from society_office.follow_ups import SETTLED, corrected_by, corrects, is_follow_up, returns_of, rights_first, within
 from society_office.orders import LARGEST_AMOUNT, MOST_SENDERS, Order, cut_of
 from society_office.plays import points
 from society_office.return_names import Entry, Return, are_listed, names_text
-from society_office.stored_returns import Stored, corrections
+from society_office.stored_returns import Stored, are_of_one_copy, corrections
 from society_office.unclaimed import Cause, Item, Unclaimed
 
 Units = collections.Counter[str]
@@ -62,8 +62,13 @@ def refuse_open(stored: Mapping[Return, Stored], void: Sequence[Entry], reporter
 
 
 def next_number(stored: Mapping[Return, Stored]) -> int:
-    """The number of the next return of the office itself; all its reporters are numbered in one row, which tells what came first."""
-    return max((it.number for it in stored.values() if is_follow_up(it.reporter)), default=0) + 1
+    """The number of the next return of the office itself; all its reporters are numbered in one row, which tells what came first. A gap
+    parts a round and a correction that were written over one copy from what follows, which would be of that copy too."""
+    settling = {it.number for it in stored.values() if it.reporter == SETTLED}
+    correcting = {it.number for it in stored.values() if corrected_by(it.reporter) is not None}
+    last = max(settling | correcting, default=0)
+    both = max(settling & correcting, default=0)
+    return last + 1 + (both > 0 and settling | correcting >= set(range(both, last)))
 
 
 def settled_returns(copy: Copy, stored: Mapping[Return, Stored], void: Sequence[Entry]) -> list[Settled]:
@@ -89,27 +94,37 @@ def held_back(copy: Copy, pool: int) -> Units:
     return Units({it.isrc: it.units for it in Unclaimed(copy).each(pool) if it.cause in MAY_BE_OWNED})
 
 
-def is_before(it: Settled, number: int) -> bool:
-    """Whether a round goes before a correction; one that was written over the same copy does where it was paid all the same."""
-    return it.number < number or it.number == number and it.pool > 0
+def is_before(it: Settled, first: Return, stored: Mapping[Return, Stored]) -> bool:
+    """Whether a round goes before the first return of a correction; one of the same copy does where it was paid all the same."""
+    if it.number < first[1] or first not in stored:
+        return it.number < first[1]
+    return it.pool > 0 and are_of_one_copy(stored[SETTLED, it.number], stored[first], stored)
 
 
-def settled_of(copy: Copy, stored: Mapping[Return, Stored], void: Sequence[Entry], pool: int | None = None) -> dict[int, Units]:
-    """What rounds before the first correction of each corrected pool have settled of it; also of one that is to be corrected now."""
+def settled_of(
+    copy: Copy, stored: Mapping[Return, Stored], void: Sequence[Entry], pool: int | None = None
+) -> dict[int, dict[int, Units]]:
+    """What rounds before the first correction of each corrected pool have settled of it, by the pool that has paid it (0: none yet); also
+    of one that is to be corrected now."""
     numbers = corrections(stored, void)
     if pool is not None:
         numbers.setdefault(pool, next_number(stored))
     settled, rights = settled_returns(copy, stored, void), copy.rights()
-    taken: dict[str, Units] = collections.defaultdict(Units)
+    left = {(right, it.number): it.units.copy() for it in settled for right in it.rights}
     found = {}
     for which, number in sorted(numbers.items(), key=lambda it: (it[1], it[0])):
         right = rights.get(which)
         if right is None or not settled:
             continue
-        before = sum((it.units for it in settled if is_before(it, number) and right in it.rights and it.pool != which), Units())
-        own = held_back(copy, which)
-        found[which] = own & (before - taken[right])
-        taken[right] += found[which]
+        own, by_pool = held_back(copy, which), dict[int, Units]()
+        # (a round whose pool was closed before can hardly have paid of it)
+        for it in sorted(settled, key=lambda it: (0 < it.pool < which, it.number)):
+            if right in it.rights and it.pool != which and is_before(it, (corrects(which), number), stored):
+                part = own & left[right, it.number]
+                by_pool[it.pool] = by_pool.get(it.pool, Units()) + part
+                own -= part
+                left[right, it.number] -= part
+        found[which] = by_pool
     return found
 
 
@@ -124,8 +139,9 @@ def later(copy: Copy, items: Iterable[Item], stored: Mapping[Return, Stored], vo
     for one in settled_returns(copy, stored, void):
         for right in one.rights:
             returned[right] += one.units
-    for pool, units in settled_of(copy, stored, void).items():
-        returned[rights[pool]] -= units
+    for pool, by_pool in settled_of(copy, stored, void).items():
+        for units in by_pool.values():
+            returned[rights[pool]] -= units
     left = {right: dict(sorted((found[right] - returned[right]).items())) for right in rights_first(found)}
     return [Later(right, units) for right, units in left.items() if units]
 

@@ -6,7 +6,7 @@ import statistics
 from collections.abc import Iterable, Iterator, Mapping, Sequence
 
 from society_office.copy import Copy
-from society_office.follow_ups import corrected_by, is_follow_up
+from society_office.follow_ups import SETTLED, corrected_by, is_follow_up
 from society_office.plays import rows
 from society_office.return_names import Entry, Return, are_listed
 
@@ -67,6 +67,15 @@ def corrections(stored: Mapping[Return, Stored], void: Sequence[Entry]) -> dict[
         if (pool := corrected_by(it.reporter)) is not None and (it.pool or not are_listed(void, it.key)):
             found[pool] = min(it.number, found.get(pool, it.number))
     return found
+
+
+def are_of_one_copy(it: Stored, other: Stored, stored: Mapping[Return, Stored]) -> bool:
+    """Whether of two returns one settles and one corrects, and they may have been written over one copy: from the lower of their numbers
+    on both reporters have returns in a row, as what is written together is numbered."""
+    if it.is_play or other.is_play or (it.reporter == SETTLED) == (other.reporter == SETTLED):
+        return False
+    first = min(it.number, other.number)
+    return all((one.reporter, number) in stored for one in (it, other) for number in range(first, one.number))
 
 
 @dataclasses.dataclass(frozen=True)

@@ -17,7 +17,7 @@ from office_value import File, Office, Pool, Return
 from society_office.cli import main
 from society_office.copy import open_copy
 from society_office.crediting import Credits, Holdings, choose, fitting, shared, wanted_of
-from society_office.settling import later
+from society_office.settling import later, next_number
 from society_office.stored_returns import stored_returns
 from society_office.unclaimed import Unclaimed
 from test_random_offices import settled_once
@@ -226,6 +226,34 @@ def test_a_round_and_a_correction_of_one_copy(copy: pathlib.Path, program: str, 
     assert ("every account was paid what is right" in said) != is_paid
     assert ("to be settled outside: 275,863 units" in said) == is_paid
     assert "have one owner now" not in run("unclaimed", then) or is_paid
+
+
+def test_a_round_of_both_rights_and_a_correction_of_one_copy(copy: pathlib.Path, program: str, tmp_path: pathlib.Path) -> None:
+    """The round's return of the mechanical right has the number behind that of the correction, and pays the same units all the same."""
+    office = quarter.OFFICE.with_steps(Return("RADIO9", 1, [("ATABC2600010", 3, 7)]), Pool(6, "MR", 50, quarter.FIRST_CUT, [("RADIO9", 1)]))
+    copy = further(program, copy, [office.request(it) for it in office.steps[-2:]], tmp_path / "with.db")
+    run("unclaimed", copy, "--settle", tmp_path / "round")
+    run("correct", copy, 6, "--cut", "now", "--program", program, "--into", tmp_path / "correct")
+    files = {"SETTLED/1": "round/PR.csv", "SETTLED/2": "round/MR.csv", "CORRECTED6/1": "correct/CORRECTED6-1.csv"}
+    requests = [(f"/returns/{key}", (tmp_path / it).read_bytes()) for key, it in files.items()]
+    stored = further(program, copy, requests, tmp_path / "stored.db")
+
+    def rival(it: pathlib.Path, order: str) -> str:
+        notes = json.loads(run("rehearse", it, tmp_path / order, "--program", program, "--format", "json"))["notes"]
+        return "".join(one.partition(" was written over the same copy")[0] for one in notes if "over the same copy" in one)
+
+    orders = {"/pools/7": "round/PR.json", "/pools/8": "round/MR.json", "/pools/9": "correct/CORRECTED6.json"}
+    assert [rival(stored, it) for it in orders.values()] == ["", "CORRECTED6/1", "SETTLED/1-2"]
+    requests = [(path, (tmp_path / it).read_bytes()) for path, it in orders.items()]
+    then = further(program, stored, requests[:1], tmp_path / "then.db")
+    assert rival(then, orders["/pools/9"]) == "SETTLED/2"
+    # Where both are paid all the same, that is told.
+    both = further(program, then, requests[1:], tmp_path / "both.db")
+    said = run("correct", both, 6, "--cut", "now", "--program", program)
+    assert "rounds of settling have paid 50 units of this pool" in said and "too much on 1 account, to be settled outside: 50 units" in said
+    # What is written then has another number than one in a row, which would be of that copy too.
+    with open_copy(both) as opened:
+        assert next_number(stored_returns(opened)) == 4
 
 
 @pytest.mark.parametrize("number", range(COUNT, COUNT + 20))
