@@ -15,7 +15,7 @@ from collections.abc import Iterator, Mapping, Sequence
 
 from society_office import faults, page_sums
 from society_office.copy import Copy
-from society_office.crediting import Credits, Holdings, by_account, choose
+from society_office.crediting import Credits, Holdings, by_account, choose, shared
 from society_office.errors import OfficeError
 from society_office.follow_ups import corrected_by, corrects, returns_of, within
 from society_office.numbering import as_json
@@ -24,7 +24,6 @@ from society_office.program import Office, Trial, trial_office
 from society_office.records import UNCLAIMED
 from society_office.return_names import Entry, Return, are_listed, names_text
 from society_office.settling import Units, next_number, refuse_open, settled_of
-from society_office.splitting import split
 from society_office.stored_returns import Stored, corrections, stored_returns
 
 NEW = 201
@@ -155,15 +154,18 @@ def paid_by(copy: Copy, pools: Sequence[int]) -> Credits:
     return found
 
 
-def move_settled(paid: Credits, settled: Mapping[str, int], holdings: Holdings) -> int:
-    """Counts what rounds of settling have paid as paid to the holders, where there are some; answers how many units that are."""
+def move_settled(copy: Copy, paid: Credits, settled: Mapping[int, Units], holdings: Holdings) -> int:
+    """Counts what rounds of settling have paid, by the pool that has, as paid to the holders at its cut; answers how many units that are.
+    What nobody owned at its cut was held back again, and counts as paid to the holders of now: a further round pays it."""
     moved = 0
-    for isrc, units in settled.items():
-        if holdings.has_owner(isrc):
-            moved += units
-            paid[isrc, UNCLAIMED] -= units
-            for (account, _), part in zip(holdings.of(isrc), split(units, [it[1] for it in holdings.of(isrc)])):
-                paid[isrc, account] += part.units
+    for pool, units in settled.items():
+        then = Holdings(copy, copy.cuts()[pool], copy.rights()[pool]) if pool else holdings
+        for isrc, count in units.items():
+            if holdings.has_owner(isrc):
+                moved += count
+                paid[isrc, UNCLAIMED] -= count
+                for account, part in shared(count, (then if then.has_owner(isrc) else holdings).of(isrc)).items():
+                    paid[isrc, account] += part
     return moved
 
 
@@ -184,7 +186,7 @@ def correct(program: str, copy: Copy, pool: int, changes: Changes, void: Sequenc
     before = followers(stored, pool)
     paid, holdings = paid_by(copy, [pool, *before]), Holdings(copy, dict(should.cut), should.kind)
     remarks = remarks_on(copy, pool, should, stored)
-    if moved := move_settled(paid, sum(settled_of(copy, stored, void, pool).get(pool, {}).values(), Units()), holdings):
+    if moved := move_settled(copy, paid, settled_of(copy, stored, void, pool).get(pool, {}), holdings):
         if should.kind != order_of(copy, pool).kind:
             raise OfficeError(
                 f"rounds of settling have paid {moved:,} units of this pool in its right: --kind can't be told apart from that"

@@ -228,6 +228,28 @@ def test_a_round_and_a_correction_of_one_copy(copy: pathlib.Path, program: str, 
     assert "have one owner now" not in run("unclaimed", then) or is_paid
 
 
+def test_a_round_has_paid_the_owners_of_its_time(copy: pathlib.Path, program: str, tmp_path: pathlib.Path) -> None:
+    """The first publisher gives a recording up after a round has paid it, and the other takes it."""
+    settled = settle(copy, quarter.OFFICE, program, tmp_path / "round")
+    house = quarter.publisher("P1", "DELTA & SONS", "700", quarter.WHOLE)
+    steps = [
+        Return("RADIO9", 1, [("ATABC2600010", 3, 7)]),
+        Pool(7, "PR", 50, quarter.FIRST_CUT, [("RADIO9", 1)]),
+        File(quarter.ALPHA, 4, "transmissions/4", [quarter.rev("A3", "GIVEN UP", "", quarter.ALPHA_HOUSE, quarter.ANNA)]),
+        File(quarter.DELTA, 3, "transmissions/3", [quarter.rev("D1", "TAKEN", "ATABC2600010", house)]),
+    ]
+    then = further(program, settled, [quarter.OFFICE.request(it) for it in steps], tmp_path / "then.db")
+    said = json.loads(run("correct", then, 1, "--cut", "now", "--program", program, "--format", "json"))
+    [units] = [units for isrc, _, units in reckoning.credits(quarter.OFFICE, 1) if isrc == "ATABC2600010"]
+    found = {it["account"]: (it["difference"], it["credited"], it["too_much"]) for it in said["accounts"] if it["difference"]}
+    half = units // 2
+    assert found == {"I00000000700": (units, units, 0), "I00000000199": (-half, 0, half), "I00000000295": (-half, 0, half)}
+    # What the second round has paid of pool 7 was paid to the owner of now, and not by the first round, which came before the pool.
+    last = settle(then, quarter.OFFICE.with_steps(*steps), program, tmp_path / "second")
+    said = run("correct", last, 7, "--cut", "now", "--program", program)
+    assert "rounds of settling have paid 50 units of this pool" in said and "every account was paid what is right" in said
+
+
 def test_a_round_of_both_rights_and_a_correction_of_one_copy(copy: pathlib.Path, program: str, tmp_path: pathlib.Path) -> None:
     """The round's return of the mechanical right has the number behind that of the correction, and pays the same units all the same."""
     office = quarter.OFFICE.with_steps(Return("RADIO9", 1, [("ATABC2600010", 3, 7)]), Pool(6, "MR", 50, quarter.FIRST_CUT, [("RADIO9", 1)]))
