@@ -89,12 +89,12 @@ def order_of(copy: Copy, pool: int) -> Order:
 
 def as_it_should_be(copy: Copy, pool: int, changes: Changes, stored: Mapping[Return, Stored], void: Sequence[Entry]) -> Order:
     """The order as it should have been; void returns are not of it. An OfficeError where it names none."""
-    was, amounts = order_of(copy, pool), copy.pools()
+    was, amounts, corrected = order_of(copy, pool), copy.pools(), corrections(stored, void)
 
     def barred(it: Stored) -> str:
         # (a pool of no units pays nothing: it is closed over what this order should have paid, so that no other does)
-        if it.pool not in (0, pool) and amounts[it.pool]:
-            return f"paid by pool {it.pool}"
+        if it.pool not in (0, pool) and (amounts[it.pool] or it.pool in corrected):
+            return f"paid by pool {it.pool}" + (", which was corrected" if it.pool in corrected else "")
         if not it.is_play and it.pool != pool:
             return "a return of the office itself"
         return "void" if are_listed(void, it.key) else ""

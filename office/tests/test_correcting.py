@@ -121,6 +121,16 @@ def test_returns_as_they_should_have_been(copy: pathlib.Path, program: str, tmp_
     assert "too much" in run("correct", copy, 1, "--amount", 0, "--program", program)
 
 
+def test_a_pool_of_no_units_that_was_corrected_has_paid_its_plays(copy: pathlib.Path, program: str, tmp_path: pathlib.Path) -> None:
+    mistaken = Pool(6, "PR", 0, quarter.FIRST_CUT, [("TV1", 1)])
+    office = quarter.OFFICE.with_steps(mistaken)
+    then = further(program, copy, [office.request(mistaken)], tmp_path / "then.db")
+    words = ["correct", then, 1, "--returns", "RADIO1/1", "--returns", "RADIO2/1", "--returns", "TV1/1", "--program", program]
+    assert "- pays TV1/1 too" in run(*words)
+    words[1], _, _ = corrected(then, office, mistaken._replace(amount=1_000), program)
+    assert "TV1/1: paid by pool 6, which was corrected" in run(*words, status=1)
+
+
 def run_errors(copy: pathlib.Path) -> str:
     """The remarks of a proposed order."""
     from society_office.command_words import void_list
