@@ -219,6 +219,47 @@ def test_what_was_settled_is_not_corrected_again(copy: pathlib.Path, program: st
     assert settled_units(then) == {}
 
 
+def test_a_round_that_was_closed_by_a_mistaken_order_is_put_right(copy: pathlib.Path, program: str, tmp_path: pathlib.Path) -> None:
+    run("unclaimed", copy, "--settle", tmp_path / "round")
+    order = {**json.loads((tmp_path / "round/PR.json").read_text()), "cut": []}
+    steps = [("/returns/SETTLED/1", (tmp_path / "round/PR.csv").read_bytes()), ("/pools/6", json.dumps(order).encode())]
+    then = further(program, copy, steps, tmp_path / "then.db")
+    # All of it was held back again: a further round would pay it, or a correction of that pool.
+    assert sum(settled_units(then).values()) == order["amount"]
+    said = run("correct", then, 6, "--cut", "now", "--program", program, "--into", tmp_path / "correct")
+    assert f"{order['amount']:,} units are missing, and a further pool credits {order['amount']:,}" in said
+    body, order6 = ((tmp_path / "correct" / it).read_bytes() for it in ("CORRECTED6-2.csv", "CORRECTED6.json"))
+    last = further(program, then, [("/returns/CORRECTED6/2", body), ("/pools/7", order6)], tmp_path / "last.db")
+    assert settled_units(last) == {} and "nothing is missing" in run("correct", last, 6, "--cut", "now", "--program", program)
+
+
+def test_a_conflict_that_goes_on_has_no_owner_in_a_corrected_pool(folder: pathlib.Path, program: str) -> None:
+    first = Office(quarter.NAMES, [*(File(*it) for it in quarter.FILES), *quarter.OFFICE.steps[12:20], FIRST])
+    then, office, _ = corrected(made(program, first, folder), first, FIRST._replace(amount=2_000_003), program)
+    units = reckoning.unclaimed(first, 1)
+    assert units["ATABC2600010"][0] == "conflict" and len(reckoning.claimants(office, None, "ATABC2600010")) == 2
+    assert f"\n{units['ATABC2600020'][1]:,} units of pool 1 have one owner now; it was corrected" in run("unclaimed", then)
+
+
+def test_what_was_settled_goes_to_the_pool_that_was_corrected_first(copy: pathlib.Path, program: str, tmp_path: pathlib.Path) -> None:
+    """The later pool takes what a round has paid of the earlier one, which then lacks it; so it stays when both are looked at again."""
+    settled = settle(copy, quarter.OFFICE, program, tmp_path / "round")
+    steps = [Return("RADIO9", 1, [("ATABC2600010", 3, 7)]), Pool(7, "PR", 50, quarter.FIRST_CUT, [("RADIO9", 1)])]
+    then = further(program, settled, [quarter.OFFICE.request(it) for it in steps], tmp_path / "then.db")
+    for pool, amount, missing in ((7, 100, 50), (1, 1_000_003, 50), (7, 100, 0), (1, 1_000_003, 0)):
+        into = tmp_path / f"correct{then.stem}"
+        said = run("correct", then, pool, "--cut", "now", "--amount", amount, "--program", program, "--into", into)
+        assert (f"{missing} units are missing, and a further pool credits {missing}\n" in said) == bool(missing)
+        if missing:
+            order = json.loads((into / f"CORRECTED{pool}.json").read_text())
+            [(reporter, number)] = order["returns"]
+            body = (into / f"{reporter}-{number}.csv").read_bytes()
+            requests = [(f"/returns/{reporter}/{number}", body), (f"/pools/{6 + number}", json.dumps(order).encode())]
+            then = further(program, then, requests, tmp_path / f"then{number}.db")
+        else:
+            assert "nothing is missing" in said or "every account was paid what is right" in said
+
+
 @pytest.mark.parametrize("is_paid", [False, True])
 def test_a_round_and_a_correction_of_one_copy(copy: pathlib.Path, program: str, tmp_path: pathlib.Path, is_paid: bool) -> None:
     run("unclaimed", copy, "--settle", tmp_path / "round")

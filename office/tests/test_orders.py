@@ -3,9 +3,11 @@
 import json
 import pathlib
 
+import pytest
 import quarter
 import reckoning
-from office_value import order_body
+from conftest import further
+from office_value import File, Pool, Return, order_body
 from society_office.copy import open_copy
 from society_office.orders import Wanted, propose
 from society_office.settling import later
@@ -40,6 +42,58 @@ def test_why_nobody_is_paid(copy: pathlib.Path) -> None:
     assert found[3, "ATABC2600022"].why == "rejected with fault 3" and found[1, "ZZZZZ2600001"].cause is Cause.NOBODY
     assert found[1, "FREPS2600001"].part == 5_000
     assert "NAMELESS 50 % (with neither an IPI name number nor an IP #)" in found[1, "FREPS2600005"].why
+
+
+EPSILON = quarter.EPSILON
+# What is sent after the quarter, and paid at its last cut: works that are revised, rejected, come twice after the cut, or wait.
+WHY = [
+    File(
+        EPSILON,
+        3,
+        "transmissions/3",
+        [
+            quarter.nwr("E1", "IS REGISTERED", "ZZZZZ2600005", quarter.ANNA, fault=20),
+            quarter.nwr("E2", "IS REGISTERED TOO", "ZZZZZ2600005 GBGAM2600003", quarter.ANNA, fault=20),
+            quarter.nwr("E6", "CAME LATE", "FREPS2600006", quarter.ANNA),
+            quarter.rev("E1", "REVISED", "FREPS2600001", quarter.ANNA),
+        ],
+    ),
+    File(EPSILON, 4, "transmissions/4", [quarter.rev("E6", "CAME LATE", "FREPS2600006", quarter.ANNA)]),
+    Return("RADIO8", 1, [(it, 1, 10) for it in ("DEBET2600001", "DEBET2600005", "FREPS2600006", "GBGAM2600003", "ZZZZZ2600005")]),
+    Pool(6, "PR", 5_000, quarter.LAST_CUT, [("RADIO8", 1)]),
+]
+
+
+@pytest.mark.parametrize(
+    "pool, isrc, cause, why, since, works",
+    [
+        (6, "DEBET2600001", Cause.LATE, f"a version of {quarter.BETA} 1 named it, and the one at the cut does not", "", ["1"]),
+        (6, "DEBET2600005", Cause.WAITING, "the file is not applied", "", ["3"]),
+        (
+            6,
+            "FREPS2600006",
+            Cause.LATE,
+            f"it came with file 3 of {EPSILON}, which the cut counts up to 1",
+            f"now only {EPSILON} E6 names it",
+            ["E6", "E6"],
+        ),
+        (6, "GBGAM2600003", Cause.REJECTED, "rejected with fault 20", "", ["E2"]),
+        (6, "ZZZZZ2600005", Cause.REJECTED, "rejected with fault 20", "", ["E1", "E2"]),
+        (1, "FREPS2600001", Cause.SHARE, "nobody collects 50 % of the PR: ÖDÖN ÄRGER 0 %, ANNA WRITER 50 %", "revised since", ["E1"]),
+        (1, "FREPS2600005", Cause.SHARE, None, "", ["E5"]),
+    ],
+)
+def test_why_and_since_when(
+    copy: pathlib.Path, program: str, pool: int, isrc: str, cause: Cause, why: str | None, since: str, works: list[str]
+) -> None:
+    then = further(program, copy, [quarter.OFFICE.request(it) for it in WHY], copy.with_name("then.db"))
+    with open_copy(then) as opened:
+        unclaimed = Unclaimed(opened).items()
+        [found] = [it for it in unclaimed if (it.pool, it.isrc) == (pool, isrc)]
+        settled = {key for it in later(opened, unclaimed, stored_returns(opened), []) for key in it.by_isrc}
+    assert (found.cause, found.since, [it.work for it in found.claimants]) == (cause, since, works) and why in (found.why, None)
+    # A share that nobody collected has no other owner when its work is revised.
+    assert (isrc in settled) == (isrc == "FREPS2600006")
 
 
 def test_an_order_is_proposed(copy: pathlib.Path) -> None:

@@ -8,7 +8,7 @@ import quarter
 from click.testing import CliRunner
 from conftest import further
 from office_value import End, Pool, Return
-from society_office import settling
+from society_office import follow_ups, settling
 from society_office.cli import main
 from society_office.copy import open_copy
 from society_office.fields import MAX_BODY
@@ -51,6 +51,13 @@ def test_an_order_credits_no_more_than_an_amount_may_be(copy: pathlib.Path) -> N
     assert found[0].returns[0][1].endswith("ATABC2600002,1,1\n") and dict(found[0].order.cut) == quarter.OFFICE.fronts()
 
 
+def test_returns_of_all_rights_are_numbered_in_one_row(copy: pathlib.Path, monkeypatch: pytest.MonkeyPatch) -> None:
+    monkeypatch.setattr(follow_ups, "MOST_ROWS", 1)
+    with open_copy(copy) as opened:
+        found = list(rounds(opened, [Later("PR", {"ATABC2600001": 5, "ATABC2600002": 6}), Later("MR", {"ATABC2600003": 7})], 4))
+    assert [it.order.returns for it in found] == [[("SETTLED", 4), ("SETTLED", 5)], [("SETTLED", 6)]]
+
+
 def test_the_offices_own_reporters() -> None:
     assert [it for it in ("SETTLED", "CORRECTED7", "CORRECTED99999") if not is_follow_up(it)] == []
     assert [it for it in ("SETTLED1", "CORRECTED", "CORRECTED07", "CORRECTED100000", "RADIO1", "XSETTLED") if is_follow_up(it)] == []
@@ -67,6 +74,7 @@ def test_a_round_that_waits_is_neither_named_nor_repeated(copy: pathlib.Path, tm
     assert "have one owner now" not in run("unclaimed", then)
     assert ["SETTLED", 1] not in json.loads(run("propose", then, "--amount", 5))["returns"]
     assert "a return of the office itself" in run("propose", then, "--amount", 5, "--returns", "SETTLED", status=1)
+    assert "a return of the office itself" in run("correct", then, 1, "--returns", "SETTLED/1", "--program", program, status=1)
     # A return that was stored by mistake is taken out of the way as a void one, and its number is not used again.
     then.with_name("void.txt").write_text("SETTLED/1 # not sent whole\n")
     run("unclaimed", then, "--settle", tmp_path / "second")

@@ -10,6 +10,8 @@ import pytest
 import quarter
 import reckoning
 from click.testing import CliRunner
+from conftest import further
+from office_value import File, Pool, Return
 from society_office import lines, order_output, parties, statement_output, statements
 from society_office.cli import main
 from society_office.copy import open_copy
@@ -239,6 +241,15 @@ def test_all_statements(copy: pathlib.Path, tmp_path: pathlib.Path) -> None:
         assert sum(int(it["units"]) for it in rows) == balance
 
 
+@pytest.mark.parametrize("at_once", [1, 10_000])
+def test_all_statements_of_publishers(copy: pathlib.Path, tmp_path: pathlib.Path, monkeypatch: pytest.MonkeyPatch, at_once: int) -> None:
+    monkeypatch.setattr(statements, "AT_ONCE", at_once)
+    run("statement", copy, "--all", "--into", tmp_path / "all")
+    for sender in quarter.NAMES:
+        rows = csv.DictReader(io.StringIO((tmp_path / "all" / sender / "statement.csv").read_text()))
+        assert sorted((it["isrc"], it["account"], int(it["units"])) for it in rows) == sorted((it[2], *it[6:]) for it in earned_by(sender))
+
+
 def test_a_statement_is_not_left_beside_a_newer_one(copy: pathlib.Path, tmp_path: pathlib.Path) -> None:
     old = tmp_path / "all/I00000000295/statement.pdf"
     run("statement", copy, "--all", "--into", tmp_path / "all", "--pdf")
@@ -287,6 +298,24 @@ def test_the_name_that_most_works_have_comes_first() -> None:
         13,
         "00000000295",
     )
+
+
+def test_names_and_sums_that_are_equal_are_in_the_order_of_their_words() -> None:
+    found = parties.named("I1", collections.Counter({("B", "writer"): 1, ("", "writer"): 9, ("A", "writer"): 1}), 2)
+    assert (found.name, found.others) == ("A", ["B"])
+    sums = statements.greatest_first({("B", "2"): 5, ("A", "1"): 5, ("C", "3"): 7}.items())
+    assert [it.words[0] for it in sums] == ["C", "A", "B"]
+
+
+def test_a_statement_has_the_name_of_the_last_work_that_was_credited(copy: pathlib.Path, tmp_path: pathlib.Path, program: str) -> None:
+    steps = [
+        File(quarter.ALPHA, 4, "transmissions/4", [quarter.rev("A2", "SONG", "ATABC2600002", quarter.writer("B/7", "NEW", "BORIS"))]),
+        Return("RADIO9", 1, [("ATABC2600002", 3, 7)]),
+        Pool(6, "PR", 50, {**quarter.LAST_CUT, quarter.ALPHA: 4}, [("RADIO9", 1)]),
+    ]
+    then = further(program, copy, [quarter.OFFICE.request(it) for it in steps], tmp_path / "then.db")
+    assert run("statement", copy, "PPB000000012B/7").startswith("PPB000000012B/7 BORIS COMPOSER\n")
+    assert run("statement", then, "PPB000000012B/7").startswith("PPB000000012B/7 BORIS NEW\n")
 
 
 def test_the_name_of_a_sender_is_that_of_its_last_file(copy: pathlib.Path) -> None:
