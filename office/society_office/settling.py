@@ -147,11 +147,12 @@ def later(copy: Copy, items: Iterable[Item], stored: Mapping[Return, Stored], vo
 
 
 def left_out(items: Iterable[Item], stored: Mapping[Return, Stored], void: Sequence[Entry]) -> dict[int, int]:
-    """What has one owner now in pools that are left to `correct`, by pool."""
+    """What has one owner now in pools that are left to `correct`, by the pool that was corrected."""
     others, found = left_to_correct(stored, void), collections.Counter[int]()
+    corrected = {it.pool: pool for it in stored.values() if it.pool and (pool := corrected_by(it.reporter)) is not None}
     for it in items:
         if it.pool in others and it.cause in MAY_BE_OWNED and it.since:
-            found[it.pool] += it.units
+            found[corrected.get(it.pool, it.pool)] += it.units
     return dict(sorted(found.items()))
 
 
