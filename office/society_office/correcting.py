@@ -185,7 +185,7 @@ def correct(program: str, copy: Copy, pool: int, changes: Changes, void: Sequenc
     should = as_it_should_be(copy, pool, changes, stored, void)
     before = followers(stored, pool)
     paid, holdings = paid_by(copy, [pool, *before]), Holdings(copy, dict(should.cut), should.kind)
-    remarks = remarks_on(copy, pool, should, stored)
+    remarks = [*remarks_on(copy, pool, should, stored), *remarks_on_unpaid(copy, pool, should, stored, before)]
     if moved := move_settled(copy, paid, settled_of(copy, stored, void, pool).get(pool, {}), holdings):
         if should.kind != order_of(copy, pool).kind:
             raise OfficeError(
@@ -242,6 +242,17 @@ def remarks_on(copy: Copy, pool: int, should: Order, stored: Mapping[Return, Sto
     if less := [it for it in was.returns if it not in should.returns]:
         found.append(f"does not pay {names_text(less)}, which pool {pool} has paid in the book")
     return found
+
+
+def remarks_on_unpaid(
+    copy: Copy, pool: int, should: Order, stored: Mapping[Return, Stored], before: Sequence[int]
+) -> Iterator[str]:
+    """What is said of returns that stand in a pool of 0 units, where that was closed with no correction of this pool, by its order."""
+    own = [(it.kind, it.cut) for it in (order_of(copy, one) for one in before)]
+    for other in sorted({stored[it].pool for it in should.returns} - {0, pool}):
+        if ((order := order_of(copy, other)).kind, order.cut) not in own:
+            listed = names_text(it for it in should.returns if stored[it].pool == other)
+            yield f"{listed} stands in pool {other} of 0 units: where a correction of another pool has paid it, it is paid twice by this"
 
 
 def then_text(cut: Mapping[str, int], sender: str) -> str:

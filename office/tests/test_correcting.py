@@ -131,6 +131,17 @@ def test_a_pool_of_no_units_that_was_corrected_has_paid_its_plays(copy: pathlib.
     assert "TV1/1: paid by pool 6, which was corrected" in run(*words, status=1)
 
 
+def test_plays_that_a_correction_of_another_pool_may_have_paid(copy: pathlib.Path, program: str) -> None:
+    right = FIRST._replace(returns=[("RADIO1", 1), ("RADIO2", 1), ("TV1", 1)])
+    then, office, _ = corrected(copy, quarter.OFFICE, right, program)
+    assert {it: office.pools[it].amount > 0 for it in office.pools if it > 5} == {6: True, 7: False}
+    told = "TV1/1 stands in pool 7 of 0 units: where a correction of another pool has paid it, it is paid twice by this"
+    for pool, is_told in ((1, False), (3, True)):
+        named = [*office.pools[pool].returns, ("TV1", 1)]
+        words = [word for reporter, number in named for word in ("--returns", f"{reporter}/{number}")]
+        assert (told in run("correct", then, pool, *words, "--program", program)) == is_told
+
+
 def run_errors(copy: pathlib.Path) -> str:
     """The remarks of a proposed order."""
     from society_office.command_words import void_list
