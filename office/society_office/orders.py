@@ -152,7 +152,9 @@ def refuse_wrong(wanted: Sequence[Entry], stored: Mapping[Return, Stored], why: 
         raise OfficeError("; ".join(wrong))
 
 
-def void_remarks(void: Sequence[Entry], stored: Mapping[Return, Stored], corrected: Container[int]) -> Iterator[str]:
+def void_remarks(
+    void: Sequence[Entry], stored: Mapping[Return, Stored], corrected: Container[int], amounts: Mapping[int, int]
+) -> Iterator[str]:
     """What is said of void returns: entries that name none that is stored, and those that a pool has paid and nothing has corrected."""
     for one in unmatched(void, stored):
         yield f"{one.told}: no such return is stored"
@@ -161,7 +163,11 @@ def void_remarks(void: Sequence[Entry], stored: Mapping[Return, Stored], correct
         if it.is_play and it.pool and it.pool not in corrected and are_listed(void, it.key):
             paid.setdefault(it.pool, []).append(it.key)
     for pool, listed in sorted(paid.items()):
-        yield f"pool {pool} has paid what is void: {names_text(listed)}; `society-office correct` tells how to put it right"
+        them = names_text(listed)
+        if amounts[pool]:
+            yield f"pool {pool} has paid what is void: {them}; `society-office correct` tells how to put it right"
+        else:
+            yield f"{them} is void and stands in pool {pool} of 0 units: where a correction has paid it, correct that pool again"
 
 
 def sort_returns(
@@ -207,7 +213,7 @@ def propose(copy: Copy, amount: int, kind: str, wanted: Wanted, void: Sequence[E
         )
         named = named[:MOST_RETURNS]
     remarks += far_ones(named, stored, void)
-    remarks += void_remarks(void, stored, corrections(stored, void))
+    remarks += void_remarks(void, stored, corrections(stored, void), copy.pools())
     remarks += [f"{it.sender} has files that wait, which this order does not count" for it in copy.lines() if it.waiting]
     return Proposal(Order(kind, amount, cut, [it.key for it in named]), left, remarks, free_pool(copy))
 

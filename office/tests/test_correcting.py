@@ -140,6 +140,11 @@ def test_plays_that_a_correction_of_another_pool_may_have_paid(copy: pathlib.Pat
         named = [*office.pools[pool].returns, ("TV1", 1)]
         words = [word for reporter, number in named for word in ("--returns", f"{reporter}/{number}")]
         assert (told in run("correct", then, pool, *words, "--program", program)) == is_told
+    # A void one of them was paid by no pool of 0 units, so that correcting that one puts nothing right.
+    then.with_name("void.txt").write_text("TV1/1\n")
+    assert "TV1/1 is void and stands in pool 7 of 0 units: where a correction has paid it, correct that pool again" in run_errors(then)
+    assert "has paid what is void" not in run_errors(then)
+    assert "every account was paid what is right" in run("correct", then, 7, "--program", program)
 
 
 def run_errors(copy: pathlib.Path) -> str:
