@@ -48,6 +48,7 @@ def check_table(found: list[dict[str, int]], office: Office, world: Office, pool
     for it in (pool, *before):
         paid += sums(reckoning.credits(office, it))
     assert {it["account"] for it in found} >= {*paid, *right}
+    assert [it["account"] for it in found] == [it["account"] for it in sorted(found, key=lambda it: (-it["difference"], it["account"]))]
     for it in found:
         name = it["account"]
         assert (it["due"], it["paid"], it["difference"]) == (right[name], paid[name], right[name] - paid[name])

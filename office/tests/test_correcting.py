@@ -209,7 +209,9 @@ def test_a_round_after_a_correction_is_of_other_pools(copy: pathlib.Path, progra
 
 def test_what_was_settled_of_a_corrected_pool_is_not_of_others(copy: pathlib.Path, program: str, tmp_path: pathlib.Path) -> None:
     settled = settle(copy, quarter.OFFICE, program, tmp_path / "round")
-    run("correct", settled, 1, "--amount", 2_000_003, "--program", program, "--into", tmp_path / "correct")
+    said = run("correct", settled, 1, "--amount", 2_000_003, "--program", program, "--into", tmp_path / "correct")
+    # (at the cut of this order two works name the recording, so that nobody was to be paid)
+    assert "rounds of settling" not in said and "then too much" not in said
     late = quarter.OFFICE.with_steps(Return("RADIO9", 1, [("ATABC2600010", 3, 7)]), Pool(9, "PR", 50, quarter.FIRST_CUT, [("RADIO9", 1)]))
     requests = [
         ("/returns/CORRECTED1/2", (tmp_path / "correct/CORRECTED1-2.csv").read_bytes()),
@@ -391,6 +393,17 @@ def test_what_is_written_is_read_as_steps(copy: pathlib.Path, program: str, tmp_
     steps = written(tmp_path / "correct", quarter.OFFICE, Pool(1, "PR", 0, quarter.FIRST_CUT, FIRST.returns))
     then = further(program, copy, [quarter.OFFICE.request(it) for it in steps], tmp_path / "then.db")
     assert "of pool 1 have one owner now; it was corrected" in run("unclaimed", then) and set(settled_units(then)) == {"FREPS2600004"}
+    # It is told once that a pool was corrected.
+    run("correct", then, 1, "--amount", 0, "--program", program, "--into", tmp_path / "again")
+    assert {it.name for it in (tmp_path / "again").iterdir()} == {"CORRECTED1-list.csv"}
+
+
+def test_a_pool_that_pays_a_correction_and_plays(copy: pathlib.Path, program: str, tmp_path: pathlib.Path) -> None:
+    mixed = Pool(6, "PR", 50, quarter.FIRST_CUT, [("CORRECTED1", 1), ("TV1", 1)])
+    steps = [("/returns/CORRECTED1/1", b"isrc,plays,seconds\nATABC2600001,5,5\n"), quarter.OFFICE.request(mixed)]
+    then = further(program, copy, steps, tmp_path / "then.db")
+    told = "pool 6 pays TV1/1 together with returns of CORRECTED1: what it corrects can't be told from the rest"
+    assert told in run("correct", then, 1, "--amount", 5, "--program", program, status=1)
 
 
 class Fixed(Holdings):
@@ -412,13 +425,14 @@ def test_last_units_are_those_that_accounts_lack_of_other_recordings() -> None:
 
 
 def test_others_get_too_much_only_where_those_that_lack_get_more() -> None:
-    holdings = Fixed({"X": [("A", 9_900), ("B", 100)], "Y": [("C", 4_000), ("B", 6_000)], "Z": [("D", 5_000), ("UNCLAIMED", 5_000)]})
-    right = Credits({("X", "A"): 9_900, ("X", "B"): 100, ("Y", "C"): 40, ("Z", "D"): 30, ("-", "UNCLAIMED"): 7})
+    half, of_nobody = [("E", 5_000), ("F", 5_000)], [("D", 5_000), ("UNCLAIMED", 5_000)]
+    holdings = Fixed({"X": [("A", 9_900), ("B", 100)], "Y": [("C", 4_000), ("B", 6_000)], "Z": of_nobody, "W": half})
+    right = Credits({("X", "A"): 9_900, ("X", "B"): 100, ("Y", "C"): 40, ("Z", "D"): 30, ("W", "E"): 10, ("-", "UNCLAIMED"): 7})
     paid = Credits({("X", "B"): 500, ("Z", "UNCLAIMED"): 60})
     strict = choose(right, paid, holdings, False)
     assert strict["Z"] in (60, 61) and strict["X"] == 49 and strict.get("Y", 0) == 0
     beyond = choose(right, paid, holdings, True)
-    assert beyond["X"] == 10_000 and beyond["Z"] == strict["Z"] and "Y" not in beyond
+    assert beyond["X"] == 10_000 and beyond["Z"] == strict["Z"] and "Y" not in beyond and beyond["W"] == strict["W"] == 1
 
 
 def paid_to_holders(office: Office, right: str) -> Counter[tuple[str, str]]:
