@@ -9,6 +9,7 @@ from collections.abc import Iterator, Mapping, Sequence
 from typing import Any
 
 from society_office import faults
+from society_office.claims import Claims
 from society_office.copy import Copy, open_copy
 from society_office.follow_ups import corrected_by
 from society_office.numbering import as_sent, rank_of
@@ -146,10 +147,10 @@ def notes_on_own(then: Copy, pool: int, amount: int, plays: Sequence[Stored], ow
 
 
 def unowned(then: Copy, pool: int) -> int:
-    """What a pool credits to nobody of recordings without any other line."""
-    question = """SELECT sum(units) FROM credits WHERE pool = ?1 AND isrc IN
-      (SELECT isrc FROM credits WHERE pool = ?1 GROUP BY isrc HAVING count(*) = 1 AND min(account) = 'UNCLAIMED')"""
-    return int(then.row(question, pool)[0] or 0)
+    """What a pool credits to nobody of recordings that no single work of its cut names."""
+    units = then.listed("SELECT isrc, sum(units) FROM credits WHERE pool = ? GROUP BY isrc", pool)
+    claims, cut = Claims(then, (isrc for isrc, _ in units)), then.cuts()[pool]
+    return sum(count for isrc, count in units if claims.owner(isrc, cut) is None)
 
 
 def notes_on_cut(copy: Copy, cut: Sequence[tuple[str, int | str]]) -> Iterator[str]:

@@ -4,13 +4,14 @@ import codecs
 import json
 import pathlib
 
+import cwr
 import pytest
 import quarter
 import reckoning
 from answers import rows_of
 from conftest import further
 from corrections import sums
-from office_value import Pool, Return, order_body
+from office_value import File, Pool, Return, order_body
 from society_office.copy import open_copy
 from society_office.orders import Wanted, propose
 from test_statements import run
@@ -164,6 +165,12 @@ def test_returns_of_the_office_itself(office: pathlib.Path, program: str, tmp_pa
     found = notes(stored, program, order(("SETTLED", 1), ("TV1", 1)))
     assert any("has to be paid by an order of its own, without plays" in it for it in found)
     assert any("a pool of its own is to pay SETTLED/1" in it for it in notes(stored, program, order(("TV1", 1))))
+    # (a work without a party, or whose parties have no number, names the recording all the same)
+    for number, parties in enumerate(([], [cwr.Party("SWR", "", "X", "", quarter.NONE, (cwr.Row(quarter.WHOLE),))]), 3):
+        file = File(quarter.EPSILON, number, f"transmissions/{number}", [quarter.rev("E4", "CAME LATE", "FREPS2600004", *parties)])
+        stored = further(program, stored, [quarter.OFFICE.request(file)], tmp_path / f"stored{number}.db")
+        then = Pool(6, "PR", units, {**quarter.LAST_CUT, quarter.EPSILON: number}, [("SETTLED", 1)])
+        assert not any("no single work of the cut names" in it for it in notes(stored, program, then))
     found = notes(stored, program, Pool(6, "PR", units, {}, [("SETTLED", 1)]))
     assert f"{units:,} units of it go to recordings that no single work of the cut names, so to UNCLAIMED" in found
 
@@ -179,3 +186,11 @@ def test_a_round_and_a_correction_over_one_copy(office: pathlib.Path, program: s
         )
     both.with_name("void.txt").write_text("SETTLED\n")
     assert "over the same copy" not in run("rehearse", both, tmp_path / "correct/CORRECTED1.json", "--program", program)
+    # One that a pool has paid may have paid them, void or not; one without a row pays none.
+    closed = further(program, both, [("/pools/6", (tmp_path / "correct/CORRECTED1.json").read_bytes())], tmp_path / "closed.db")
+    closed.with_name("void.txt").write_text("CORRECTED1\n")
+    assert "note: CORRECTED1/1 was written over the same copy" in run("rehearse", closed, tmp_path / "round/PR.json", "--program", program)
+    bodies = {"SETTLED": (tmp_path / "round/PR.csv").read_bytes(), "CORRECTED1": b"isrc,plays,seconds\n"}
+    empty = further(program, office, [(f"/returns/{it}/1", body) for it, body in bodies.items()], tmp_path / "empty.db")
+    empty.with_name("void.txt").unlink()
+    assert "over the same copy" not in run("rehearse", empty, tmp_path / "round/PR.json", "--program", program)
