@@ -38,6 +38,12 @@ def check_explained(copy: pathlib.Path, office: Office, pool: int, account: str)
     rows = rows_of(run("explain", copy, account, "--pool", pool, "--format", "csv"))
     assert [(it["isrc"], account, int(it["units"])) for it in rows if it["units"]] == wanted
     assert all(int(it["plays"]) * int(it["seconds"]) == int(it["points"]) for it in rows if it["plays"])
+    columns = ("amount", "pool_points", "recording_points", "recording_units", "weight", "weights")
+    assert [[int(it[one]) for one in columns] for it in rows] == [
+        [amount, found["points"], it["recording"]["weight"], it["recording"]["units"], it["share"]["weight"], it["share"]["all_weights"]]
+        for it in found["credits"]
+        for _ in it["plays"] or [None]
+    ]
     for isrc, points_of_it in points.items():
         own = [int(it["points"]) for it in rows if it["isrc"] == isrc]
         assert sum(own) == points_of_it * len([it for it in wanted if it[0] == isrc])

@@ -15,7 +15,8 @@ import pytest
 import quarter
 import reckoning
 from answers import balances_by_pool, check_balances, check_explained, check_stored
-from office_value import return_body
+from conftest import further
+from office_value import Pool, Return, return_body
 from society_office.errors import OfficeError
 from society_office.page_sums import changed
 from society_office.pool_names import pool_names
@@ -52,8 +53,18 @@ def test_an_explanation_in_words(copy: pathlib.Path, tmp_path: pathlib.Path) -> 
     assert re.search(r"the recording, 2,000 points: 1,000,003 \* 2,000 / 8,642 = 231,42\d, remainder [\d,]+ \(number \d; the last", said)
     assert "ANNA WRITER, 100 % of the PR: 231,42" in said and "which is what the statement has" in said
     assert "2 works of the cut name it: A3 of PB000000012, D1 of PB000000078" in run("explain", copy, "UNCLAIMED", "--pool", 1)
+    assert run("explain", copy, "UNCLAIMED", "--pool", 1).startswith("UNCLAIMED\npool 1 ")
     run("explain", copy, "I00000000295", "--pool", 1, "--output", tmp_path / "it.txt")
     assert "ANNA WRITER" in (tmp_path / "it.txt").read_text()
+
+
+def test_the_last_unit_goes_to_the_first_recording(copy: pathlib.Path, tmp_path: pathlib.Path, program: str) -> None:
+    steps = [
+        Return("RADIO8", 1, [("ZZZZZ2600001", 1, 10), ("ATABC2600004", 1, 10)]),
+        Pool(6, "MR", 1_001, quarter.FIRST_CUT, [("RADIO8", 1)]),
+    ]
+    then = further(program, copy, [OFFICE.request(it) for it in steps], tmp_path / "then.db")
+    assert "501 units in all, which is what the statement has" in run("explain", then, "I00000000199", "--pool", 6)
 
 
 def test_the_name_of_an_explained_pool_is_no_formula(copy: pathlib.Path) -> None:

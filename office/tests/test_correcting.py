@@ -190,7 +190,9 @@ def test_what_was_corrected_is_not_settled_again(copy: pathlib.Path, program: st
         copy, quarter.OFFICE, FIRST._replace(cut={**quarter.FIRST_CUT, quarter.ALPHA: 3, quarter.DELTA: 2}), program
     )
     assert settled_units(then) == {"FREPS2600004": reckoning.unclaimed(quarter.OFFICE, 3)["FREPS2600004"][1]}
-    assert "275,863 units of pool 1 have one owner now; it was corrected" in run("unclaimed", then)
+    for void in ("CORRECTED1  # paid all the same\n", ""):
+        then.with_name("void.txt").write_text(void)
+        assert "275,863 units of pool 1 have one owner now; it was corrected" in run("unclaimed", then)
     settled = settle(then, office, program, tmp_path / "round")
     assert json.loads((tmp_path / "round/PR.json").read_text())["returns"] == [["SETTLED", 2]] and settled_units(settled) == {}
 
@@ -205,6 +207,14 @@ def test_a_round_after_a_correction_is_of_other_pools(copy: pathlib.Path, progra
     said = run("correct", settled, 1, "--cut", "now", "--program", program)
     assert "every account" in said or "nothing is missing" in said
     assert "rounds of settling" not in said
+    # Nor is it of this pool where that is corrected once more.
+    words = ["correct", settled, 1, "--cut", "now", "--amount", 1_100_003, "--program", program]
+    assert "units are missing" in run(*words, "--into", tmp_path / "more")
+    written = {"/returns/CORRECTED1/3": "CORRECTED1-3.csv", "/pools/10": "CORRECTED1.json"}
+    requests = [(path, (tmp_path / "more" / it).read_bytes()) for path, it in written.items()]
+    words[1] = further(program, settled, requests, tmp_path / "more.db")
+    said = run(*words)
+    assert "rounds of settling" not in said and "units are missing" not in said
 
 
 def test_what_was_settled_of_a_corrected_pool_is_not_of_others(copy: pathlib.Path, program: str, tmp_path: pathlib.Path) -> None:
@@ -422,6 +432,13 @@ def test_last_units_are_those_that_accounts_lack_of_other_recordings() -> None:
     paid = Credits({("X", "A"): 2, ("X", "B"): 1, ("Y", "B"): 2, ("Y", "A"): 1})
     right = Credits({("X", "A"): 3, ("X", "B"): 3, ("Y", "B"): 3, ("Y", "A"): 3})
     assert choose(right, paid, holdings, False) == {"X": 4, "Y": 2}
+
+
+def test_recordings_that_several_lack_come_first() -> None:
+    # P lacks one unit in all, which it may get of either; with one of X, Q would get none.
+    holdings = Fixed({"A": [("P", 10_000)], "B": [("P", 10_000)], "X": [("P", 5_000), ("Q", 5_000)]})
+    right, paid = Credits({("A", "P"): 1, ("X", "P"): 1, ("X", "Q"): 1}), Credits({("B", "P"): 1})
+    assert choose(right, paid, holdings, False) == {"X": 2}
 
 
 def test_others_get_too_much_only_where_those_that_lack_get_more() -> None:

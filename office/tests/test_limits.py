@@ -30,8 +30,9 @@ def test_an_amount_is_within_its_limits(copy: pathlib.Path, amount: int) -> None
     assert "an amount is 0 to 1,000,000,000,000 units" in run("propose", copy, f"--amount={amount}", status=1)
 
 
-def test_the_number_of_the_next_pool(copy: pathlib.Path) -> None:
+@pytest.mark.parametrize("last, free", [(99_998, 99_999), (99_999, 4)])
+def test_the_number_of_the_next_pool(copy: pathlib.Path, last: int, free: int) -> None:
     with changed(copy) as database:
-        database.execute("INSERT INTO pools VALUES (99999, 0)")
+        database.execute("INSERT INTO pools VALUES (?, 0)", (last,))
     ended = CliRunner(mix_stderr=False).invoke(main, ["propose", str(copy), "--amount", "1"])
-    assert "pool 4 is free" in ended.stderr
+    assert f"pool {free} is free" in ended.stderr

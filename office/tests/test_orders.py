@@ -109,6 +109,7 @@ def test_an_order_is_proposed(copy: pathlib.Path) -> None:
         ],
         "returns": [["TV1", 1]],
     }
+    assert json.loads(run("propose", copy, "--amount", 1000, "--returns", "TV1"))["returns"] == [["TV1", 1]]
     changes = [f"{quarter.BETA}=1", f"{quarter.DELTA}=0", f"{quarter.ALPHA}=2"]
     cut = [word for it in changes for word in ("--cut", it)]
     earlier = run("propose", copy, "--amount", 1000, *cut)

@@ -85,6 +85,7 @@ UNSOUND = [
     ("UPDATE transmissions SET sender = 'XY' WHERE sender = 'PB000000078'", "XY has file 1, whose header names 'PB000000078'"),
     ("UPDATE pools SET amount = -5 WHERE pool = 2", "pool 2 has an amount of -5"),
     ("UPDATE pools SET amount = amount + 1 WHERE pool = 3", "pool 3 has an amount of 7777778 and credits of 7777777"),
+    ("UPDATE credits SET units = units + 1 WHERE pool = 2 AND line = 0", "pool 2 has an amount of 40001 and credits of 40002"),
     ("UPDATE balances SET units = units + 1 WHERE account = 'UNCLAIMED'", "the office has balances of 8817794 and pools of 8817793"),
     ("UPDATE credits SET pool = 9 WHERE pool = 5", "pool 5 has an amount of 12 and credits of 0"),
     ("DELETE FROM fronts WHERE sender = 'PB000000012'", "PB000000012 has files and no front"),

@@ -103,6 +103,8 @@ def test_both_rights_have_returns_of_their_own(copy: pathlib.Path, tmp_path: pat
     with open_copy(closed) as opened:
         stored = stored_returns(opened)
         assert next_number(stored) == 3 and [it.right for it in later(opened, Unclaimed(opened).items(), stored, [])] == []
+    played = further(program, closed, [("/returns/RADIO7/1", found["MR.csv"].encode())], tmp_path / "played.db")
+    assert ["RADIO7", 1] in json.loads(run("propose", played, "--amount", 5, "--kind", "MR"))["returns"]
     said = CliRunner(mix_stderr=False).invoke(main, ["unclaimed", str(closed), "--settle", str(tmp_path / "again")])
     assert said.stderr == "nothing is left that has one owner now: nothing was written\n" and not (tmp_path / "again").exists()
     said = CliRunner(mix_stderr=False).invoke(main, ["unclaimed", str(closed), "--settle", str(tmp_path / "round")])

@@ -187,9 +187,11 @@ def test_a_large_statement_since_a_pool(copy: pathlib.Path, key: str, since: int
     assert sorted(int(it["pool"]) for it in rows) == wanted
     with open_copy(copy) as opened:
         found = Statements(opened).of(key, since)
-    assert found.sums.count == len(wanted) and sum(it.units for it in found.by_work) == found.total == sum(
-        it[-1] for it in listed if it[0] >= since
-    )
+    by_work = collections.Counter()
+    for it in listed:
+        by_work[it[3:6]] += it[-1] if it[0] >= since else 0
+    assert found.sums.count == len(wanted) and +collections.Counter({it.words: it.units for it in found.by_work}) == +by_work
+    assert found.total == sum(by_work.values())
 
 
 def test_pools_that_credited_nothing_to_an_account(copy: pathlib.Path) -> None:
