@@ -17,6 +17,7 @@ from office_value import PLAIN, End, Pool, Return, order_body
 from society_office import order_output, rehearsal_output, settling, site, statement_output
 from society_office.cli import main
 from society_office.page_sums import changed
+from society_office.unclaimed import Cause, Item
 from test_statements import earned_by, lines_by, run
 
 BALANCES = reckoning.balances(quarter.OFFICE)
@@ -155,12 +156,14 @@ def test_a_rehearsal_as_a_table(copy: pathlib.Path, tmp_path: pathlib.Path, prog
 
 def test_what_is_unclaimed_as_a_table(copy: pathlib.Path, monkeypatch: pytest.MonkeyPatch) -> None:
     monkeypatch.setattr(order_output, "MOST_ROWS", 1)
-    said, by_cause = run("unclaimed", copy), dict[str, list[int]]()
-    for it in json.loads(run("unclaimed", copy, "--format", "json")):
+    said, by_cause, found = run("unclaimed", copy), dict[str, list[int]](), json.loads(run("unclaimed", copy, "--format", "json"))
+    for it in found:
         by_cause.setdefault(it["cause"], []).append(it["units"])
     assert max(map(len, by_cause.values())) > 2
     for cause, units in by_cause.items():
-        assert f"\n{cause}: {sum(units):,} unit" in f"\n{said}"
+        counted = len({it["isrc"] for it in found if it["cause"] == cause})
+        what = "pool" if cause == "no plays" else f"recording{'s' * (counted > 1)}"
+        assert f"\n{cause}: {sum(units):,} units, {counted} {what}\n" in f"\n{said}"
         # (a long cell goes on in further lines)
         listed = [it for it in printed(f"\n{said}", f"{cause}: ") if len(it) > 3 and it[0].isdigit()]
         assert [it[3] for it in listed] == [f"{max(units):,}"]
@@ -169,6 +172,11 @@ def test_what_is_unclaimed_as_a_table(copy: pathlib.Path, monkeypatch: pytest.Mo
         nobodys = sum(units for _, units in reckoning.unclaimed(quarter.OFFICE, pool).values())
         wanted.append([str(pool), f"{it.amount:,}", f"{nobodys:,}", part(nobodys, it.amount)])
     assert printed(said, "By pool") == wanted
+
+
+def test_recordings_without_a_title_are_several() -> None:
+    items = [Item(pool, "PR", f"ZZZZZ260000{k}", 5, Cause.NOBODY, (), "no file names it") for pool, k in ((1, 1), (1, 2), (2, 2))]
+    assert order_output.of_what(Cause.NOBODY, items) == "2 recordings" and order_output.of_what(Cause.NO_PLAYS, items) == "3 pools"
 
 
 @pytest.mark.parametrize("amount, left", [(2_000_006, "too_much"), (1_000_010, "still_missing")])

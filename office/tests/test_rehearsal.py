@@ -12,8 +12,10 @@ from answers import rows_of
 from conftest import further
 from corrections import sums
 from office_value import File, Pool, Return, order_body
+from society_office import rehearsal_output
 from society_office.copy import open_copy
 from society_office.orders import Wanted, propose
+from society_office.stored_returns import Stored
 from test_statements import run
 
 PLAYS = [("ATABC2600001", 3, 100), ("DEBET2600003", 2, 50)]
@@ -150,6 +152,15 @@ def test_its_forms(office: pathlib.Path, program: str) -> None:
         ("RADIO4", 1, 1, 1_000),
         ("RADIO4", 2, 1, 1_100),
     ]
+
+
+def test_of_many_returns_all_of_a_station_stand_in_one_row(monkeypatch: pytest.MonkeyPatch) -> None:
+    returns = [Stored(*it, 2, 50, b"", 0) for it in (("RADIO1", 1), ("RADIO1", 3), ("TV1", 2))]
+    sums = [("RADIO1", "RADIO1/1,3", 4, 100, "66.7 %"), ("TV1", "TV1/2", 2, 50, "33.3 %")]
+    each = [("RADIO1", f"RADIO1/{it}", 2, 50, "33.3 %") for it in (1, 3)]
+    assert list(rehearsal_output.return_rows(returns)) == [*each, *sums]
+    monkeypatch.setattr(rehearsal_output, "MOST_LISTED", 2)
+    assert list(rehearsal_output.return_rows(returns)) == sums
 
 
 def test_returns_of_the_office_itself(office: pathlib.Path, program: str, tmp_path: pathlib.Path) -> None:

@@ -8,7 +8,7 @@ import quarter
 from click.testing import CliRunner
 from conftest import further
 from office_value import End, Pool, Return
-from society_office import follow_ups, settling
+from society_office import follow_ups, settling, settling_output
 from society_office.cli import main
 from society_office.copy import open_copy
 from society_office.fields import MAX_BODY
@@ -51,11 +51,12 @@ def test_an_order_credits_no_more_than_an_amount_may_be(copy: pathlib.Path) -> N
     assert found[0].returns[0][1].endswith("ATABC2600002,1,1\n") and dict(found[0].order.cut) == quarter.OFFICE.fronts()
 
 
-def test_returns_of_all_rights_are_numbered_in_one_row(copy: pathlib.Path, monkeypatch: pytest.MonkeyPatch) -> None:
+def test_returns_of_all_rights_are_numbered_in_one_row(copy: pathlib.Path, monkeypatch: pytest.MonkeyPatch, tmp_path: pathlib.Path) -> None:
     monkeypatch.setattr(follow_ups, "MOST_ROWS", 1)
     with open_copy(copy) as opened:
         found = list(rounds(opened, [Later("PR", {"ATABC2600001": 5, "ATABC2600002": 6}), Later("MR", {"ATABC2600003": 7})], 4))
     assert [it.order.returns for it in found] == [[("SETTLED", 4), ("SETTLED", 5)], [("SETTLED", 6)]]
+    assert [settling_output.write_round(tmp_path, it) for it in found] == [["PR.json", "PR.csv", "PR-2.csv"], ["MR.json", "MR.csv"]]
 
 
 def test_the_offices_own_reporters() -> None:
