@@ -8,6 +8,7 @@ import socket
 import subprocess
 import sys
 import time
+from collections.abc import Iterator
 
 import office_value
 import pytest
@@ -25,6 +26,15 @@ from test_checks import FIRST
 from test_statements import run
 
 COMMAND = [sys.executable, str(ROOT / "office/society-office")]
+
+
+@pytest.fixture(autouse=True)
+def heeded() -> Iterator[None]:
+    """What is started in the background ignores Ctrl-C, and under nohup the end of its terminal; neither is so while a test runs."""
+    before = {it: signal.signal(it, how) for it, how in ((signal.SIGINT, signal.default_int_handler), (signal.SIGHUP, signal.SIG_DFL))}
+    yield
+    for number, handler in before.items():
+        signal.signal(number, handler)
 
 
 def shell(script: str, **extra: str) -> subprocess.CompletedProcess[str]:
