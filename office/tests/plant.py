@@ -3,7 +3,7 @@
 
 plants.toml has the bugs: a file, a text that stands in it once, the text that takes its place, and the tests that are likely to notice it.
 These run first, then the others, and those that take long last, each only where the ones before notice nothing. Printed is what becomes
-of each bug, and the count; the status is 1 where one is out of date.
+of each bug, and the count; the status is 1 where one is out of date, or where a test that is likely to notice one fails without it.
 """
 import argparse
 import os
@@ -13,6 +13,7 @@ import subprocess
 import sys
 import tempfile
 import tomllib
+from collections.abc import Iterable
 
 TESTS = pathlib.Path(__file__).resolve().parent
 ROOT = TESTS.parent.parent
@@ -39,6 +40,13 @@ def is_noticed(office: pathlib.Path, words: list[str]) -> bool:
     except subprocess.TimeoutExpired:
         return True
     return done.returncode != 0
+
+
+def failing_without(tests: Iterable[str]) -> list[str]:
+    """The test files that fail without a bug."""
+    with tempfile.TemporaryDirectory(prefix="plant-") as folder:
+        office = checkout(pathlib.Path(folder))
+        return [it for it in sorted(tests) if is_noticed(office, [f"tests/{it}"])]
 
 
 def plants() -> list[dict[str, str]]:
@@ -85,6 +93,8 @@ def main() -> None:
     options.add_argument("--first", type=int, default=0, metavar="K")
     given = options.parse_args()
     chosen = [it for it in plants() if not given.words or any(word in it["name"] for word in given.words)][given.first :: given.every]
+    if failing := failing_without({test for it in chosen for test in it.get("first", "").split()}):
+        sys.exit(f"without any bug these fail, so that they notice none: {', '.join(failing)}")
     found = {}
     for it in chosen:
         found[it["name"]] = outcome(it, given.likely)
