@@ -157,9 +157,10 @@ def paid_by(copy: Copy, pools: Sequence[int]) -> Credits:
 def move_settled(copy: Copy, paid: Credits, settled: Mapping[int, Units], holdings: Holdings) -> int:
     """Counts what rounds of settling have paid, by the pool that has, as paid to the holders at its cut; answers how many units that are.
     What nobody owned at its cut was held back again, and counts as paid to the holders of now: a further round pays it."""
-    moved = 0
+    moved, cuts, rights = 0, copy.cuts(), copy.rights()
     for pool, units in settled.items():
-        then = Holdings(copy, copy.cuts()[pool], copy.rights()[pool]) if pool else holdings
+        then = holdings.at(cuts[pool], rights[pool]) if pool else holdings
+        then.load(units)
         for isrc, count in units.items():
             if holdings.has_owner(isrc):
                 moved += count

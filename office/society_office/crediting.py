@@ -30,6 +30,12 @@ class Holdings:
         self.claims, self.works = Claims(copy), Works(copy)
         self.made: dict[str, list[tuple[str, int]]] = {}
 
+    def at(self, cut: Mapping[str, int], right: str) -> "Holdings":
+        """Those at another cut and in another right, by the same claims and works."""
+        found = Holdings(self.copy, cut, right)
+        found.claims, found.works = self.claims, self.works
+        return found
+
     def owner(self, isrc: str) -> Claim | None:
         """The only work of the cut that names a recording; None where there is none, or two."""
         return self.claims.owner(isrc, self.cut)
