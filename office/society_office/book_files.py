@@ -7,6 +7,7 @@ import sqlite3
 import sys
 import time
 from collections.abc import Callable, Iterator
+from typing import TypeVar
 
 from society_office import book_log, page_sums
 from society_office.copy import beside, is_in_use
@@ -15,6 +16,7 @@ from society_office.errors import OfficeError
 PROCESSES = pathlib.Path("/proc")
 # How often, and after how many seconds, an office that has a file not open is looked at again: it may be just starting or ending.
 TRIES, PAUSE = 5, 0.2
+Found = TypeVar("Found")
 USAGE = """usage: python3 -m society_office.book_files check DATABASE
        python3 -m society_office.book_files log LOG
        python3 -m society_office.book_files join DATABASE LOG TARGET
@@ -67,14 +69,29 @@ def unwritten(database: pathlib.Path) -> tuple[str, pathlib.Path] | None:
     return None
 
 
-def fault_of_files(database: pathlib.Path) -> str:
-    """What is wrong with the files that an office writes, in words, or the empty text."""
+def emptied(database: pathlib.Path) -> str | None:
+    """An office's process under which the log was emptied: it writes the first words of a log before it listens."""
+    log = log_of(database)
+    return next((it.name for it in offices(database) if log.exists() and not any(book_log.Log(log).header)), None)
+
+
+def still(look: Callable[[pathlib.Path], Found | None], database: pathlib.Path) -> Found | None:
+    """What is found, where it is so each time that it is looked at."""
     tries = TRIES
-    while (found := unwritten(database)) is not None and tries:
+    while (found := look(database)) is not None and tries:
         time.sleep(PAUSE)
         tries -= 1
+    return found
+
+
+def fault_of_files(database: pathlib.Path) -> str:
+    """What is wrong with the files that an office writes, in words, or the empty text."""
+    found = still(unwritten, database)
     if found is None:
-        return book_log.fault_of_log(log_of(database))
+        log = log_of(database)
+        if (fault := book_log.fault_of_log(log)) or (office := still(emptied, database)) is None:
+            return fault
+        return f"{log} is damaged: it was emptied under the office, process {office}, and the next start drops what stood in it"
     process, path = found
     return (
         f"the office, process {process}, does not write {path}: it was moved, removed or put there while the office ran, "

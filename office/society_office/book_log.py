@@ -99,9 +99,9 @@ class Log:
 
         A transaction that was broken off has no last page with the log's own salts and right sums, or an open first one. So any other
         last page behind the end means that something before it was changed. A log that was emptied while the office had it open begins with
-        nothing; one transaction behind that may be the first of a new log, which a power failure broke off.
+        nothing: the first words of a new one are on the disk before its first page is.
         """
-        is_read, end, lost = self.is_right, 0, 0 if any(self.header) else -1
+        is_read, end, lost = self.is_right, 0, 0
         for frame in () if self.is_shut else self.frames():
             if is_read and not frame.is_right:
                 is_read, lost = False, -1 if frame.is_open else 0

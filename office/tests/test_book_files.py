@@ -85,15 +85,17 @@ def test_what_the_next_start_is_refused_for(served: Served) -> None:
 def test_a_log_that_was_emptied_under_the_office(served: Served, program: str) -> None:
     database, words = served
     log, office = book_files.log_of(database), Office(words[words.index("--office") + 1])
-    log.write_bytes(b"")
-    for number, state in (1, "good"), (2, "WRONG"):
-        assert office.ask("PUT", f"/v1/returns/TV9/{number}", b"isrc,plays,seconds\n").status == 201
-        office.close()
-        assert findings(words)["file"][0] == state
-    assert f"{log} is damaged: 1 transactions stand behind a page" in findings(words)["file"][1]
     backup = [BACKUP, "--db", database, "--to", database.parent / "to", "--program", program]
-    done = subprocess.run(backup, stderr=subprocess.PIPE, check=False)
-    assert done.returncode == 1 and b"office.db-wal is damaged" in done.stderr and list((database.parent / "to").glob("*.db")) == []
+    log.write_bytes(b"")
+    for number in range(3):
+        if number:
+            assert office.ask("PUT", f"/v1/returns/TV9/{number}", b"isrc,plays,seconds\n").status == 201
+            office.close()
+        told = f"{log} is damaged: " + (f"{number} transactions stand behind a page" if number else "it was emptied under the office")
+        state, said = findings(words)["file"]
+        assert state == "WRONG" and told in said
+        done = subprocess.run(backup, stderr=subprocess.PIPE, check=False, text=True)
+        assert done.returncode == 1 and f"FAILED: {told}" in done.stderr and list((database.parent / "to").glob("*.db")) == []
 
 
 def test_a_link_to_the_file(served: Served, tmp_path: pathlib.Path) -> None:
