@@ -15,8 +15,10 @@ from society_office.errors import OfficeError
 from society_office.faults import NOT_TAKEN
 from society_office.program import Answer, Office, parts_of
 
-# What is asked again: the office had no memory or disk for it, or the proxy had too many requests, or no office behind it.
-AGAIN = (502, 503, 504)
+# What is asked again: the office had no memory or disk for it (503), or a proxy has no disk, or no office behind it.
+AGAIN = {408, 429, *range(500, 600)}
+# What leads to another address, at which what is put is not.
+ELSEWHERE = range(300, 400)
 # Seconds between one time and the next.
 FIRST_PAUSE, LONGEST_PAUSE = 0.05, 5.0
 # So many seconds an answer is waited for at least, though hardly any are left in which it would be asked for again.
@@ -47,7 +49,7 @@ class PatientOffice:
         self.office, self.seconds, self.least, self.asked, self.is_stopped = office, seconds, least, 0, False
 
     def ask(self, it: Request) -> Answer:
-        """The answer to a request; an OfficeError where none came in time, or the user is refused."""
+        """The answer to a request; an OfficeError where none came in time, the user is refused, or the office is elsewhere."""
         if self.asked and self.asked % ON_ONE_CONNECTION == 0:
             self.office.close()
         self.asked += 1
@@ -59,6 +61,8 @@ class PatientOffice:
             pause = min(2 * pause, LONGEST_PAUSE)
         if said.status in (401, 403):
             raise OfficeError(f"{self.office.address}: {NOT_TAKEN[said.status]} (--netrc)")
+        if said.status in ELSEWHERE:
+            raise OfficeError(f"{self.office.address} answers {said.status}: it leads to another address, which is the one to name")
         return said
 
     def once(self, it: Request, until: float) -> Answer | str:

@@ -256,6 +256,8 @@ class Busy(http.server.BaseHTTPRequestHandler):
     asked: list[str] = []
     connections = 0
     silent = threading.Event()
+    # What it answers to one after the other, 0 for nothing, and then to all.
+    statuses = [503, 0, 502, 500, 429, 201]
 
     def setup(self) -> None:
         type(self).connections += 1
@@ -264,7 +266,7 @@ class Busy(http.server.BaseHTTPRequestHandler):
     def do_PUT(self) -> None:
         self.rfile.read(int(self.headers["Content-Length"]))
         self.asked.append(self.headers["Authorization"] or "")
-        status = [503, 0, 502, 201][min(len(self.asked) - 1, 3)]
+        status = self.statuses[min(len(self.asked), len(self.statuses)) - 1]
         if not self.path.startswith("/v1/"):
             status = 401 if self.path.endswith("/1") else self.silent.wait(30) and 0
         if status:
@@ -294,7 +296,7 @@ def test_what_is_refused_for_now_is_sent_again(busy: str, tmp_path: pathlib.Path
     answers = list(connections.answers(Request("return", f"returns/TV5/{k + 1}", b"") for k in range(count)))
     connections.close()
     assert [(it.path, answer.status) for it, answer in answers] == [(f"returns/TV5/{k + 1}", 201) for k in range(count)]
-    assert len(Busy.asked) == count + 3 and set(Busy.asked) == {"Basic b2ZmaWNlOnNlY3JldA=="}
+    assert len(Busy.asked) == count + len(Busy.statuses) - 1 and set(Busy.asked) == {"Basic b2ZmaWNlOnNlY3JldA=="}
     # (the first one was broken, and a new one is made before the last request)
     assert Busy.connections == 3
 
@@ -313,6 +315,17 @@ def test_what_ends_a_round(busy: str, copy: pathlib.Path, tmp_path: pathlib.Path
     (tmp_path / "netrc").write_bytes(b"machine 127.0.0.1 login office password \xff\n")
     assert "0xFF is no UTF-8" in run("resend", copy, "--to", busy, "--netrc-file", tmp_path / "netrc", status=1)
     assert "is no address" in run("resend", copy, "--to", "office", status=1)
+
+
+@pytest.mark.parametrize("status, said", [(500, "answers 500 to senders/"), (301, "answers 301: it leads to another address")])
+def test_what_no_office_answers_is_no_refusal(
+    status: int, said: str, busy: str, copy: pathlib.Path, tmp_path: pathlib.Path, monkeypatch: pytest.MonkeyPatch
+) -> None:
+    state = tmp_path / "state.json"
+    monkeypatch.setattr(Busy, "statuses", [status])
+    assert said in run("resend", copy, "--to", busy, "--wait", "0", status=1) and len(Busy.asked) == 1
+    told = run("resend", copy, "--to", busy, "--wait", "0", "--state", state, "--behind", "0", status=1, out=True)
+    assert "is known to have all until" in told and "not the same" not in told and len(Busy.asked) == 2
 
 
 def test_one_answer_ends_what_others_wait_for(busy: str) -> None:
