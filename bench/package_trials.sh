@@ -250,7 +250,10 @@ systemctl reset-failed society
 has "and then it starts" '{"front":0,"held":[]}' sh -c "systemctl start society; $(declare -f ask front); o=$o; front"
 has "a downgrade" "Setting up society-office" install_these --allow-downgrades /srv/older/society_*.deb /srv/older/society-office_*.deb
 has "the older program" '{"front":0,"held":[]}' sh -c "systemctl restart society; $(declare -f ask front); o=$o; front"
-has "and the newer one again" "the office runs the program of before" install_these /srv/society_*.deb /srv/society-office_*.deb
+echo '# ours' >> $proxy/nginx.conf
+install_these -o Dpkg::Options::=--force-confold /srv/society_*.deb /srv/society-office_*.deb > /srv/upgraded 2>&1
+has "and the newer one again" "the office runs the program of before" cat /srv/upgraded
+has "a changed configuration stays, and that is told" "$proxy/nginx.conf stays as you changed it" cat /srv/upgraded
 has "over the same book" '{"front":0,"held":[]}' sh -c "systemctl restart society; $(declare -f ask front); o=$o; front"
 forget office
 useradd --system --gid nogroup _society
