@@ -342,6 +342,18 @@ def no_password_handed_on(proxy):
     return status == 200 and len(heads) == 1 and b"authorization" not in heads[0].lower()
 
 
+def reached_from_here_alone(proxy):
+    """Another machine reaches it where `listen` is changed, and the port that hands puts on, which asks for no password, never."""
+    own = {os.readlink(it) for it in pathlib.Path(f"/proc/{proxy.process.pid}/fd").iterdir()}
+    rows = [it.split() for name in ("tcp", "tcp6") for it in pathlib.Path(f"/proc/net/{name}").read_text().splitlines()]
+    return [it[1].split(":")[0] for it in rows if it[3] == "0A" and f"socket:[{it[9]}]" in own] == ["0100007F"] * 3
+
+
+def mirror_is_no_page(proxy):
+    """What hands puts on is asked for by nobody."""
+    return asked(proxy, OFFICE, "GET", "/mirror", source="127.0.0.32")[0] == 404
+
+
 def newest_tls(proxy):
     with connected(proxy.port, proxy) as peer:
         return peer.version() == "TLSv1.3"
@@ -385,6 +397,8 @@ CASES = {
     not_kept: [("        add_header Cache-Control no-store always;\n", ""), ("no-store always", "no-store")],
     no_version: [("        server_tokens off;\n", "")],
     no_password_handed_on: [('            proxy_set_header Authorization "";\n', "")],
+    reached_from_here_alone: [(f"listen 127.0.0.1:{it}", f"listen {it}") for it in ("8443 ssl", "8444 ssl", "8445")],
+    mirror_is_no_page: [("            internal;\n            if", "            if")],
     newest_tls: [("        ssl_protocols TLSv1.2 TLSv1.3;\n", "")],
     types: [(types_line(it), "") for it in ("text/html html", "text/css css", "text/csv csv", "text/javascript js", "application/json json")]
     + [(types_line("application/pdf pdf"), ""), ("    default_type application/octet-stream;\n", "")],
