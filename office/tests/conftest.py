@@ -28,7 +28,8 @@ TAKEN = {200, 201, 202}
 def program() -> str:
     """The program under test: $SOCIETY_PROGRAM, else the one that bin/society of this checkout runs."""
     if found := os.environ.get("SOCIETY_PROGRAM"):
-        return found
+        # (it is run from other folders too)
+        return os.path.abspath(found)
     asked = subprocess.run([ROOT / "bin/program"], stdout=subprocess.PIPE, text=True, check=False)
     return asked.stdout.strip() or str(ROOT / "bin/society")
 
