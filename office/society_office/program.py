@@ -29,6 +29,8 @@ CHECKOUT = pathlib.Path(__file__).resolve().parent.parent.parent
 START, ANSWER = 600, 600
 MANY = 1_000_000
 # What stands in no name of a host.
+# What an audit says that came to no end: nothing where it was killed.
+NOT_LOOKED_AT = re.compile("memory|database store")
 UNPRINTED = re.compile(r"[\x00-\x20\x7f]")
 # An office answers so to what it takes, or has already, and tells one of these states.
 TAKEN = (200, 201, 202)
@@ -279,12 +281,18 @@ def told_of(copy: Copy) -> Iterator[None]:
 
 
 def audited(save: Callable[[pathlib.Path], object], words: list[str], program: str | None = None) -> tuple[int, str]:
-    """The status with which the program audits what `save` writes, and what it says; an OfficeError where there is no program."""
+    """The status with which the program audits what `save` writes, and what it says.
+
+    An OfficeError where there is no program, or it could not look at it, for want of memory or disk.
+    """
     with tempfile.TemporaryDirectory(prefix="society-office-") as folder:
         place = pathlib.Path(folder) / "copy.db"
         save(place)
         done = subprocess.run([find_program(program), "audit", "--db", str(place), *words], capture_output=True, check=False)
-    return done.returncode, (done.stdout + done.stderr).decode(errors="replace").strip()
+    said = (done.stdout + done.stderr).decode(errors="replace").strip()
+    if not said or NOT_LOOKED_AT.search(said):
+        raise OfficeError(f"`society audit` could not look at it (is the disk full, or the memory?): {said or done.returncode}")
+    return done.returncode, said
 
 
 def has_program() -> bool:

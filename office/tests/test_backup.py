@@ -18,6 +18,8 @@ from collections.abc import Iterator
 
 import pytest
 from conftest import OFFICE, ROOT, running
+from society_office.errors import OfficeError
+from society_office.health import Looked, look_into_backup
 from society_office.program import free_port
 
 BACKUP, RESTORE = ROOT / "debian/bin/society-backup", ROOT / "debian/bin/society-restore"
@@ -93,6 +95,26 @@ def test_no_copy_for_a_group_that_is_none(copy: pathlib.Path, tmp_path: pathlib.
     (tmp_path / "file").touch()
     done = backed_up(copy, tmp_path, program, "--group", own_group(), "--place", str(tmp_path / "file"))
     assert done.returncode == 1 and "is there, but it could not be put into" in done.stderr.splitlines()[-1]
+
+
+NO_AUDIT = ["echo society: database store >&2; exit 1", "echo society: memory fault after 0 requests >&2; exit 1", "kill -9 $$"]
+
+
+@pytest.mark.parametrize("end", NO_AUDIT)
+def test_what_could_not_be_audited_is_not_said_to_be_unsound(copy: pathlib.Path, tmp_path: pathlib.Path, end: str) -> None:
+    other, home = tmp_path / "society", tmp_path / "home"
+    other.write_text(f"#!/bin/sh\n{end}\n")
+    other.chmod(0o755)
+    home.mkdir()
+    for done in backed_up(copy, tmp_path, str(other)), restored(copy, home / "office.db", str(other)):
+        assert done.returncode == 1 and "could not be audited (is the disk full, or the memory?): " in done.stderr.splitlines()[-1]
+    assert not list(home.iterdir()) and not list((tmp_path / "backups").glob("*.db"))
+    (tmp_path / "copies").mkdir()
+    shutil.copy(copy, tmp_path / "copies")
+    looked, kept = Looked("", backups=tmp_path / "copies", program=str(other)), dict[str, object]()
+    with pytest.raises(OfficeError, match="could not look at it"):
+        look_into_backup(looked, kept)
+    assert not kept
 
 
 @pytest.mark.parametrize("is_running", [True, False])
