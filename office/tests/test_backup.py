@@ -117,6 +117,46 @@ def test_what_could_not_be_audited_is_not_said_to_be_unsound(copy: pathlib.Path,
     assert not kept
 
 
+# In the place of `cp`: lets the office go on so many times.
+OTHERS_SIGNAL = """#!/bin/bash
+echo x >> "$0.copied"
+[ "$(wc -l < "$0.copied")" -gt TIMES ] || kill -CONT OFFICE
+exec /bin/cp "$@"
+"""
+
+
+@pytest.mark.parametrize("times, status", [(1, 0), (99, 1)])
+def test_another_lets_the_office_go_on(copy: pathlib.Path, tmp_path: pathlib.Path, program: str, times: int, status: int) -> None:
+    tools = tmp_path / "tools"
+    tools.mkdir()
+    with running(program, copy, free_port(), "--existing", "--connections", "1") as office:
+        (tools / "cp").write_text(OTHERS_SIGNAL.replace("TIMES", str(times)).replace("OFFICE", str(office.pid)))
+        (tools / "cp").chmod(0o755)
+        words = [BACKUP, "--db", copy, "--to", tmp_path / "backups", "--program", program]
+        env = {**os.environ, "PATH": f"{tools}:{os.environ['PATH']}"}
+        done = subprocess.run(words, env=env, capture_output=True, text=True, check=False)
+        assert pathlib.Path(f"/proc/{office.pid}/stat").read_text().rpartition(")")[2].split()[0] != "T"
+    assert done.returncode == status and ("the office went on before all was copied" in done.stderr) == bool(status)
+    assert len(list((tmp_path / "backups").glob("office-*.db"))) == 1 - status
+
+
+def test_an_office_that_is_started_while_its_files_are_copied(copy: pathlib.Path, tmp_path: pathlib.Path, program: str) -> None:
+    tools = tmp_path / "tools"
+    tools.mkdir()
+    (tools / "cp").write_text(HELD_CP)
+    (tools / "cp").chmod(0o755)
+    words = [BACKUP, "--db", copy, "--to", tmp_path / "backups", "--program", program]
+    env = {**os.environ, "PATH": f"{tools}:{os.environ['PATH']}"}
+    with subprocess.Popen(words, env=env, stdout=subprocess.PIPE, stderr=subprocess.PIPE, text=True) as backup:
+        until = time.monotonic() + 60
+        while not (tools / "copying").exists() and time.monotonic() < until:
+            time.sleep(0.05)
+        with running(program, copy, free_port(), "--existing", "--connections", "1"):
+            (tools / "go-on").touch()
+            out, err = backup.communicate(timeout=120)
+    assert (backup.returncode, err) == (0, "") and "sound; halted for 0 ms" not in out
+
+
 @pytest.mark.parametrize("is_running", [True, False])
 def test_two_backups_of_one_office_at_once(copy: pathlib.Path, tmp_path: pathlib.Path, program: str, is_running: bool) -> None:
     tools, both = tmp_path / "tools", [tmp_path / "one", tmp_path / "other"]
