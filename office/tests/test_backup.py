@@ -446,3 +446,21 @@ def test_a_service_that_does_not_answer(copy: pathlib.Path, tmp_path: pathlib.Pa
     assert done.returncode == 1 and f"the front of PB000000012 is not told at port {port}, not 3. society is stopped" in done.stderr
     asked = (tools / "asked").read_text().split()
     assert asked[:3] == ["stop", "reset-failed", "start"] and asked[-1] == "stop" and (tmp_path / "office/office.db").exists()
+
+
+def test_a_restore_that_is_cut_off_tells_what_stands(copy: pathlib.Path, tmp_path: pathlib.Path, program: str) -> None:
+    tools = tmp_path / "tools"
+    tools.mkdir()
+    (tmp_path / "office").mkdir()
+    (tools / "systemctl").write_text(FAILING.replace("STATE", "activating"))
+    (tools / "systemctl").chmod(0o755)
+    with socket.create_server(("127.0.0.1", 0)) as halted:
+        words = [RESTORE, "--from", copy, "--db", tmp_path / "office/office.db", "--sender", "PB000000012", "--front", "3"]
+        words += ["--port", str(halted.getsockname()[1]), "--program", program]
+        env = {**os.environ, "PATH": f"{tools}:{os.environ['PATH']}"}
+        with subprocess.Popen(words, env=env, stderr=subprocess.PIPE, text=True, start_new_session=True) as restore:
+            asking, _ = halted.accept()
+            os.killpg(restore.pid, signal.SIGTERM)
+            said = restore.communicate(timeout=60)[1]
+            asking.close()
+    assert (restore.returncode, said) == (143, "restore: cut off; the backup is in place; run this again\n")
