@@ -464,3 +464,43 @@ def test_a_restore_that_is_cut_off_tells_what_stands(copy: pathlib.Path, tmp_pat
             said = restore.communicate(timeout=60)[1]
             asking.close()
     assert (restore.returncode, said) == (143, "restore: cut off; the backup is in place; run this again\n")
+
+
+def test_what_stood_beside_the_file_goes_with_it(copy: pathlib.Path, tmp_path: pathlib.Path, program: str) -> None:
+    """The next start would be refused for what another program broke off."""
+    home, endings = tmp_path / "home", ("", "-wal", "-shm", "-journal")
+    home.mkdir()
+    for ending in endings:
+        (home / f"office.db{ending}").write_bytes(copy.read_bytes() if not ending else b"x" * 99)
+    assert restored(copy, home / "office.db", program).returncode == 0
+    aside = next(home.glob("aside-*"))
+    assert {it.name for it in home.iterdir()} == {"office.db", aside.name}
+    assert {it.name: it.stat().st_size for it in aside.iterdir() if it.name != "office.db"} == {f"office.db{it}": 99 for it in endings[1:]}
+
+
+class WithoutRoom(Refusing):
+    """An office that has no memory for the first question."""
+
+    asked = 0
+
+    def do_GET(self) -> None:
+        type(self).asked += 1
+        self.send_response(503 if self.asked == 1 else 200)
+        self.end_headers()
+        self.wfile.write(b'{"error":"busy"}' if self.asked == 1 else b'{"front":3,"held":[]}')
+
+
+def test_an_office_that_has_no_room_is_asked_again(copy: pathlib.Path, tmp_path: pathlib.Path, program: str) -> None:
+    tools = tmp_path / "tools"
+    tools.mkdir()
+    (tmp_path / "home").mkdir()
+    (tools / "systemctl").write_text("#!/bin/sh\n")
+    (tools / "systemctl").chmod(0o755)
+    with http.server.HTTPServer(("127.0.0.1", 0), WithoutRoom) as office:
+        threading.Thread(target=office.serve_forever, daemon=True).start()
+        words = [RESTORE, "--from", copy, "--db", tmp_path / "home/office.db", "--sender", "PB000000012", "--front", "3"]
+        words += ["--port", str(office.server_port), "--program", program]
+        env = {**os.environ, "PATH": f"{tools}:{os.environ['PATH']}"}
+        done = subprocess.run(words, env=env, capture_output=True, text=True, check=False)
+        office.shutdown()
+    assert (done.returncode, done.stderr) == (0, "") and WithoutRoom.asked == 2
