@@ -387,6 +387,16 @@ def test_a_halted_office_is_not_waited_for_for_ever(copy: pathlib.Path, tmp_path
     assert (done.returncode, done.stderr) == (0, "")
 
 
+def test_the_time_of_a_copy_is_that_of_what_it_holds(copy: pathlib.Path, tmp_path: pathlib.Path, program: str) -> None:
+    slow = tmp_path / "society"
+    slow.write_text(f'#!/bin/sh\ntouch "$0.begun"\nsleep 1.1\nexec {program} "$@"\n')
+    slow.chmod(0o755)
+    done = backed_up(copy, tmp_path, str(slow))
+    assert (done.returncode, done.stderr) == (0, "")
+    [made] = (tmp_path / "backups").glob("office-*.db")
+    assert made.stat().st_mtime < (tmp_path / "society.begun").stat().st_mtime
+
+
 def test_what_is_no_copy_is_not_taken_away(copy: pathlib.Path, tmp_path: pathlib.Path, program: str) -> None:
     folder = tmp_path / "backups"
     folder.mkdir()
@@ -504,3 +514,36 @@ def test_an_office_that_has_no_room_is_asked_again(copy: pathlib.Path, tmp_path:
         done = subprocess.run(words, env=env, capture_output=True, text=True, check=False)
         office.shutdown()
     assert (done.returncode, done.stderr) == (0, "") and WithoutRoom.asked == 2
+
+
+def test_who_may_copy(copy: pathlib.Path, open_folder: pathlib.Path) -> None:
+    """Whoever may only read the file can't halt the office, and would copy what it writes meanwhile."""
+    if os.getuid() != 0:
+        pytest.skip("only root can run a backup as another user")
+    script, database = shutil.copy(BACKUP, open_folder), pathlib.Path(shutil.copy(copy, open_folder / "office.db"))
+    database.chmod(0o644)
+    words = [script, "--db", database, "--to", open_folder / "none", "--program", "true"]
+    done = subprocess.run(words, cwd=open_folder, user=NOBODY, group=NOBODY, capture_output=True, text=True, check=False)
+    assert (done.returncode, done.stderr) == (1, f"backup: FAILED: only root and the user of the office may copy {database}\n")
+
+
+def test_half_of_two_files_is_not_restored(copy: pathlib.Path, tmp_path: pathlib.Path, program: str) -> None:
+    (tmp_path / "home").mkdir()
+    log = copy.with_name(copy.name + "-wal")
+    # (an audit leaves a log of 41 bytes beside a copy)
+    for size, status in (42, 1), (41, 0):
+        log.write_bytes(bytes(size))
+        done = restored(copy, tmp_path / "home/office.db", program)
+        assert done.returncode == status and ("is half of a copy of two files" in done.stderr) == bool(status)
+        assert (tmp_path / "home/office.db").exists() == (not status)
+
+
+def test_nothing_is_restored_under_an_office(copy: pathlib.Path, tmp_path: pathlib.Path, program: str) -> None:
+    home = tmp_path / "home"
+    home.mkdir()
+    shutil.copy(copy, home / "office.db")
+    with running(program, home / "office.db", free_port(), "--existing", "--connections", "1") as office:
+        before = everything(home)
+        done = restored(copy, home / "office.db", program)
+        assert (done.returncode, everything(home)) == (1, before)
+    assert done.stderr == f"restore: FAILED: process {office.pid} has {home / 'office.db'} open; stop it first\n"
