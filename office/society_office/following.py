@@ -9,7 +9,7 @@ from typing import Any
 from society_office.copy import Copy
 from society_office.errors import OfficeError
 from society_office.numbering import as_sent, counted
-from society_office.pages import write_text
+from society_office.pages import text_of, write_text
 from society_office.resending import Tally
 
 MINUTE = 60
@@ -61,7 +61,7 @@ class Following:
 def kept(path: pathlib.Path) -> Following:
     """What was kept; an OfficeError where there is nothing, or something else."""
     try:
-        found = Following(**json.loads(path.read_text()))
+        found = Following(**json.loads(text_of(path)))
         if not isinstance(found.has, dict) or not isinstance(found.refused, list) or found.since is None:
             raise TypeError("other values")
         # (what is no time can't be told as one)

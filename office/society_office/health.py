@@ -20,7 +20,7 @@ from society_office.book_files import fault_of_files, log_of, offices, office_wo
 from society_office.copy import beside, open_copy
 from society_office.errors import OfficeError
 from society_office.numbering import as_sent
-from society_office.pages import write_text
+from society_office.pages import text_of, write_text
 from society_office.program import Office, audited, context_by
 
 GOOD, WARNING, WRONG = 0, 1, 2
@@ -79,12 +79,22 @@ class Looked:
     standby: pathlib.Path | None = None
 
 
+def newest_first(folder: pathlib.Path) -> list[pathlib.Path]:
+    """The backups of a folder; what leads nowhere, or is taken away meanwhile, is none."""
+    found = []
+    for path in folder.glob("*.db"):
+        with contextlib.suppress(FileNotFoundError):
+            if path.is_file():
+                found.append((path.stat().st_mtime, path))
+    return [path for _, path in sorted(found, reverse=True)]
+
+
 def newest(folder: pathlib.Path) -> pathlib.Path:
     """The newest backup of a folder; an OfficeError where it has none."""
-    found = [it for it in folder.glob("*.db") if it.is_file()]
+    found = newest_first(folder)
     if not found:
         raise OfficeError(f"no backup (*.db) in {folder}")
-    return max(found, key=lambda it: it.stat().st_mtime)
+    return found[0]
 
 
 def judged(value: float, limit: float, worse_above: bool) -> int:
@@ -135,7 +145,7 @@ def compared(known: dict[str, int], fronts: dict[str, int], state: pathlib.Path 
 def look_at_file(it: Looked) -> Finding:
     """Whether the office that runs writes the file that the path names, and its log is whole."""
     assert it.database is not None
-    if not it.database.exists():
+    if not it.database.is_file():
         return Finding("file", WRONG, f"there is no file {it.database}", 1, "faults")
     fault = fault_of_files(it.database) or fault_of_next_start(it.database)
     return Finding(
@@ -278,7 +288,7 @@ def kept_state(it: Looked) -> dict[str, Any]:
     if it.state is None or not it.state.exists():
         return {"fronts": {}, "sound": {}}
     try:
-        found = json.loads(it.state.read_text())
+        found = json.loads(text_of(it.state))
         fronts, sound = found["fronts"], found["sound"]
         if not isinstance(sound, dict) or not all(isinstance(front, int) for front in fronts.values()):
             raise TypeError("other values")
@@ -296,7 +306,7 @@ def known_fronts(it: Looked, kept: dict[str, int]) -> dict[str, int]:
         return dict(kept)
     found: dict[str, int] = {}
     lately: set[str] = set()
-    for path in sorted(it.backups.glob("*.db"), key=lambda it: it.stat().st_mtime, reverse=True)[:2]:
+    for path in newest_first(it.backups)[:2]:
         with contextlib.suppress(OfficeError), open_copy(path) as copy:
             fronts = {line.sender: line.front for line in copy.lines()}
             found, lately = found or fronts, lately | fronts.keys()

@@ -82,6 +82,13 @@ def write_text(target: pathlib.Path, text: str) -> None:
     write_bytes(target, text.encode())
 
 
+def text_of(path: pathlib.Path) -> str:
+    """The text of a file; a ValueError where it is none, as a pipe, on which one would wait for ever."""
+    if path.exists() and not path.is_file():
+        raise ValueError("it is no file")
+    return path.read_text()
+
+
 def begins_as_a_book(path: pathlib.Path) -> bool:
     """Whether a file begins as a database does, or as the log of one."""
     start = b""

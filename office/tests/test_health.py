@@ -70,6 +70,38 @@ def test_what_was_kept_and_can_not_be_read(copy: pathlib.Path, tmp_path: pathlib
     assert state.read_bytes() == kept and list(tmp_path.glob(".state*")) == []
 
 
+def test_what_stands_beside_the_backups(copy: pathlib.Path, tmp_path: pathlib.Path, monkeypatch: pytest.MonkeyPatch) -> None:
+    """What leads nowhere, a pipe, and what the next backup takes away hide no front that is known."""
+    folder = tmp_path / "backups"
+    folder.mkdir()
+    for name, age in (("a.db", 2), ("b.db", 1), ("gone.db", 3)):
+        shutil.copy(copy, folder / name)
+        os.utime(folder / name, (time.time() - age * HOUR,) * 2)
+    (folder / "link.db").symlink_to(tmp_path / "nowhere")
+    os.mkfifo(folder / "pipe.db")
+    is_file = pathlib.Path.is_file
+
+    def taken_away(path: pathlib.Path) -> bool:
+        found = is_file(path)
+        if path.name == "gone.db":
+            path.unlink(missing_ok=True)
+        return found
+
+    monkeypatch.setattr(pathlib.Path, "is_file", taken_away)
+    assert [it.name for it in health.newest_first(folder)] == ["b.db", "a.db"]
+    assert health.known_fronts(Looked("", backups=folder), {})[quarter.ALPHA] == 3
+
+
+def test_pipes_in_the_place_of_files(copy: pathlib.Path, tmp_path: pathlib.Path) -> None:
+    pipe = tmp_path / "pipe"
+    os.mkfifo(pipe)
+    said = run("health", "--office", "http://127.0.0.1:1", "--state", pipe, "--db", pipe, "--standby", pipe, status=2, out=True)
+    assert f"{pipe} is not what this command keeps there: take it away" in said and f"WRONG  file         there is no file {pipe}\n" in said
+    assert f"{pipe} is not what `resend --state` keeps: it is no file" in said
+    said = run("resend", copy, "--to", "http://127.0.0.1:1", "--wait", "0", "--state", pipe, status=1)
+    assert said == f"society-office: {pipe} is not what `resend --state` keeps: it is no file\n"
+
+
 def test_a_clock_that_has_gone_back(copy: pathlib.Path) -> None:
     looked = Looked("", backups=copy.parent)
     for hours, state in (-0.5, GOOD), (-2, WARNING), (31, WARNING), (29, GOOD):
