@@ -27,6 +27,7 @@ from society_office import page_sums
 
 BACKUP, RESTORE = ROOT / "debian/bin/society-backup", ROOT / "debian/bin/society-restore"
 PATH = f"/v1/senders/{SENDER}/transmissions"
+RETURN = "/v1/returns/TV9/1", b"isrc,plays,seconds\n"
 # Most seconds until something that has to happen at once has happened.
 SOON = 3
 WRONG, TRIALS = [], []
@@ -435,7 +436,7 @@ def restores(office):
 
 
 def killed_at_each_step(office, copy):
-    """Kills a restore before each program that it runs: the book is the one from before, which has 4 files, or the backup, which has 3."""
+    """Kills a restore before each program that it runs: the book is the one from before, of 4 files, or the backup, of 6 and a return."""
     kept = office.folder / "kept"
     subprocess.run([office.tools / "systemctl", "stop"], check=True)
     shutil.copytree(office.home, kept)
@@ -455,11 +456,13 @@ def killed_at_each_step(office, copy):
         if not (office.tools / "killed").exists():
             break
         with common.Server(office.program, office.database) as server, contextlib.closing(server.connection()) as it:
-            found.append(common.json.loads(common.ask(it, "GET", f"/v1/senders/{SENDER}")[1])["front"])
+            front = common.json.loads(common.ask(it, "GET", f"/v1/senders/{SENDER}")[1])["front"]
+            found.append((front, common.ask(it, "PUT", *RETURN)[0]))
     for name in names:
         (office.tools / name).unlink()
-    before = found.count(4)
-    check(f"killed at {len(found)} steps", (status, found, before > 8, len(found) - before > 3), (0, [4] * before + [3] * (len(found) - before), True, True))
+    older, newer = (4, 201), (6, 200)
+    before = found.count(older)
+    check(f"killed at {len(found)} steps", (status, found, before > 8, len(found) - before > 3), (0, [older] * before + [newer] * (len(found) - before), True, True))
     subprocess.run([office.tools / "systemctl", "start"], check=True)
     office.wait()
 
@@ -539,22 +542,31 @@ def one_at_a_time(office):
 
 @trial
 def restores_that_end_early(office):
-    office.send(3)
+    office.send(2)
     assert office.backed_up()[0] == 0
+    older = office.newest()
+    office.send(4)
+    assert office.asked("PUT", *RETURN)[0] == 201 and office.backed_up()[0] == 0
     copy = office.newest()
-    office.send(1)
+    # (a log that has not each page of its file, and beside the backup would be neither book)
+    office.stop()
+    (office.home / "office.db-wal").unlink()
+    shutil.copy(older, office.database)
+    office.start()
+    office.sent = 2
+    office.send(2)
     office.as_service()
     try:
         # The file can't be put in place: what was there comes back.
         office.tool("mv", "#!/bin/sh\nexit 1\n")
-        status, _, err = office.restored("--from", copy, "--sender", SENDER, "--front", "3")
+        status, _, err = office.restored("--from", copy, "--sender", SENDER, "--front", "6")
         check("it could not be put in place", (status != 0, "is untouched" in err), (True, True))
         check("the office as it was", office.wait(), 4)
         check("nothing beside", sorted(it.name for it in office.home.iterdir()), ["office.db", "office.db-wal"])
         (office.tools / "mv").unlink()
         killed_at_each_step(office, copy)
-        check("run again", office.restored("--from", copy, "--sender", SENDER, "--front", "3")[0], 0)
-        check("the office over the copy", office.wait(), 3)
+        check("run again", office.restored("--from", copy, "--sender", SENDER, "--front", "6")[0], 0)
+        check("the office over the copy", office.wait(), 6)
     finally:
         office.end_service()
 

@@ -547,3 +547,17 @@ def test_nothing_is_restored_under_an_office(copy: pathlib.Path, tmp_path: pathl
         done = restored(copy, home / "office.db", program)
         assert (done.returncode, everything(home)) == (1, before)
     assert done.stderr == f"restore: FAILED: process {office.pid} has {home / 'office.db'} open; stop it first\n"
+
+
+def test_no_signal_comes_between_the_renames(copy: pathlib.Path, tmp_path: pathlib.Path, program: str) -> None:
+    tools, home = tmp_path / "tools", tmp_path / "home"
+    for it in tools, home:
+        it.mkdir()
+    (home / "office.db").write_bytes(copy.read_bytes() + bytes(4096))
+    (tools / "mv").write_text('#!/bin/bash\n/bin/mv "$@" && kill -TERM $PPID && kill -HUP $PPID && kill -INT $PPID\n')
+    (tools / "mv").chmod(0o755)
+    words = [RESTORE, "--from", copy, "--db", home / "office.db", "--service", "none", "--program", program]
+    env = {**os.environ, "PATH": f"{tools}:{os.environ['PATH']}"}
+    done = subprocess.run(words, env=env, capture_output=True, text=True, check=False)
+    assert (done.returncode, done.stderr) == (0, "") and "is in place; what was there is in" in done.stdout
+    assert (home / "office.db").read_bytes() == copy.read_bytes() and len(list(next(home.glob("aside-*")).iterdir())) == 1
