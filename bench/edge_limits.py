@@ -323,8 +323,8 @@ def no_version(proxy):
     return all_have(proxy, "Server", "nginx")
 
 
-def no_password_handed_on(proxy):
-    """The office gets the request without the password."""
+def handed_on(proxy, seconds=0):
+    """The status of a request to the trial office, for which something else stands that answers after so many seconds, and what came there."""
     heads = []
 
     def office():
@@ -332,6 +332,7 @@ def no_password_handed_on(proxy):
             peer, _ = listening.accept()
             with peer:
                 heads.append(peer.recv(1 << 16))
+                time.sleep(seconds)
                 peer.sendall(b"HTTP/1.1 200 OK\r\nContent-Length: 0\r\n\r\n")
 
     thread = threading.Thread(target=office, daemon=True)
@@ -339,7 +340,18 @@ def no_password_handed_on(proxy):
     time.sleep(0.3)
     status = asked(proxy, OFFICE, "GET", PATHS[OFFICE], port=proxy.trial_port)[0]
     thread.join(20)
+    return status, heads
+
+
+def no_password_handed_on(proxy):
+    """The office gets the request without the password."""
+    status, heads = handed_on(proxy)
     return status == 200 and len(heads) == 1 and b"authorization" not in heads[0].lower()
+
+
+def long_answer(proxy):
+    """An answer that takes long, as to a great pool or behind a backup, is waited for."""
+    return handed_on(proxy, 11)[0] == 200
 
 
 def reached_from_here_alone(proxy):
@@ -397,6 +409,7 @@ CASES = {
     not_kept: [("        add_header Cache-Control no-store always;\n", ""), ("no-store always", "no-store")],
     no_version: [("        server_tokens off;\n", "")],
     no_password_handed_on: [('            proxy_set_header Authorization "";\n', "")],
+    long_answer: [("proxy_read_timeout 60s;", f"proxy_read_timeout {it}s;") for it in (1, 10)],
     reached_from_here_alone: [(f"listen 127.0.0.1:{it}", f"listen {it}") for it in ("8443 ssl", "8444 ssl", "8445")],
     mirror_is_no_page: [("            internal;\n            if", "            if")],
     newest_tls: [("        ssl_protocols TLSv1.2 TLSv1.3;\n", "")],
@@ -404,7 +417,7 @@ CASES = {
     + [(types_line("application/pdf pdf"), ""), ("    default_type application/octet-stream;\n", "")],
 }
 # Those that wait for a time to pass: tried beside each other.
-SLOW = {half_head, half_body, kept_alive, not_read}
+SLOW = {half_head, half_body, kept_alive, not_read, long_answer}
 
 
 def tried(proxy, cases):
