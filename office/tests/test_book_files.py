@@ -2,9 +2,11 @@
 
 import contextlib
 import json
+import os
 import pathlib
 import shutil
 import subprocess
+import time
 from collections.abc import Iterator
 
 import pytest
@@ -13,6 +15,8 @@ from click.testing import CliRunner
 from conftest import OFFICE
 from society_office import book_files, book_log, health
 from society_office.cli import main
+from society_office.copy import open_copy
+from society_office.page_sums import changed
 from society_office.program import Office, free_port
 from test_backup import BACKUP
 
@@ -153,6 +157,15 @@ def test_senders_that_are_gone(copy: pathlib.Path, tmp_path: pathlib.Path) -> No
     found = health.known_fronts(looked, {quarter.ALPHA: 99, "PB000000099": 7})
     assert found[quarter.ALPHA] == 99 and "PB000000099" not in found and quarter.BETA in found
     assert health.known_fronts(health.Looked(""), {"PB000000099": 7}) == {"PB000000099": 7}
+    # (one that the newest lacks, and the one before has, is what an older file that is served would hide)
+    newest = pathlib.Path(shutil.copy(copy, tmp_path / "office-2.db"))
+    os.utime(tmp_path / "office-1.db", (time.time() - 99,) * 2)
+    with changed(newest) as database:
+        for table in "transmissions", "fronts", "segment_ends":
+            database.execute(f"DELETE FROM {table} WHERE sender = ?", (quarter.ALPHA,))
+    with open_copy(newest) as opened:
+        assert quarter.ALPHA not in {it.sender for it in opened.lines()}
+    assert health.known_fronts(looked, {quarter.ALPHA: 99, "PB000000099": 7})[quarter.ALPHA] == 99
 
 
 def written(copy: pathlib.Path, folder: pathlib.Path) -> tuple[pathlib.Path, bytearray]:

@@ -7,6 +7,7 @@ import os
 import pathlib
 import re
 import shutil
+import socket
 import subprocess
 import threading
 import time
@@ -92,14 +93,33 @@ def test_what_stands_beside_the_backups(copy: pathlib.Path, tmp_path: pathlib.Pa
     assert health.known_fronts(Looked("", backups=folder), {})[quarter.ALPHA] == 3
 
 
+def test_fronts_that_were_seen_are_kept(tmp_path: pathlib.Path, monkeypatch: pytest.MonkeyPatch) -> None:
+    """Those of after the newest backup too: an older file that is served later has less."""
+    state = tmp_path / "state.json"
+    state.write_text(json.dumps({"fronts": {quarter.ALPHA: 3}, "sound": {}}))
+    for front, status, kept in ((5, 0, 5), (4, 2, 5)):
+        with other(monkeypatch, b'{"front":%d,"held":[]}' % front) as address:
+            run("health", "--office", address, "--state", state, status=status, out=True)
+        assert json.loads(state.read_text())["fronts"] == {quarter.ALPHA: kept}
+
+
+def test_an_office_that_hangs_is_not_waited_for(tmp_path: pathlib.Path) -> None:
+    """A next run would come meanwhile."""
+    with socket.create_server(("127.0.0.1", 0)) as hanging:
+        begun = time.monotonic()
+        said = run("health", "--office", f"http://127.0.0.1:{hanging.getsockname()[1]}", "--seconds", "1", status=2, out=True)
+    assert "WRONG  answer" in said and time.monotonic() - begun < 30
+
+
 def test_pipes_in_the_place_of_files(copy: pathlib.Path, tmp_path: pathlib.Path) -> None:
     pipe = tmp_path / "pipe"
     os.mkfifo(pipe)
+    for it in pathlib.Path(os.devnull), pipe:
+        said = run("resend", copy, "--to", "http://127.0.0.1:1", "--wait", "0", "--state", it, status=1)
+        assert said == f"society-office: {it} is not what `resend --state` keeps: it is no file\n"
     said = run("health", "--office", "http://127.0.0.1:1", "--state", pipe, "--db", pipe, "--standby", pipe, status=2, out=True)
     assert f"{pipe} is not what this command keeps there: take it away" in said and f"WRONG  file         there is no file {pipe}\n" in said
     assert f"{pipe} is not what `resend --state` keeps: it is no file" in said
-    said = run("resend", copy, "--to", "http://127.0.0.1:1", "--wait", "0", "--state", pipe, status=1)
-    assert said == f"society-office: {pipe} is not what `resend --state` keeps: it is no file\n"
 
 
 def test_a_clock_that_has_gone_back(copy: pathlib.Path) -> None:
