@@ -280,6 +280,11 @@ def look_at_standby(it: Looked, limits: Limits) -> Finding:
     assert it.standby is not None
     found = following.kept(it.standby)
     state = WRONG if found.refused else judged(found.minutes, limits.standby, True)
+    hours = (found.since - time.time()) / HOUR
+    if state == GOOD and hours > 1:
+        # (the next round would put it right)
+        words = f"{found.words}: a time {hours:.1f} hours from now, so the clock was wrong, and no round has ended since"
+        return Finding("standby", WARNING, words, found.minutes, "minutes")
     return Finding("standby", state, found.words, found.minutes, "minutes")
 
 

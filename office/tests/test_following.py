@@ -64,6 +64,15 @@ def test_a_standby_that_is_not_the_same_is_wrong_at_once(program: str, folder: p
     assert look(state).state == WRONG and "another file under this number" in look(state).words
 
 
+@pytest.mark.parametrize("hours, state", [(0.9, GOOD), (1.1, WARNING), (99.0, WARNING)])
+def test_a_clock_that_has_gone_back_hides_no_standby_that_is_left_alone(tmp_path: pathlib.Path, hours: float, state: int) -> None:
+    following.Following("http://a", time.time() + hours * 60 * MINUTE).keep(tmp_path / "state.json")
+    found = look(tmp_path / "state.json")
+    assert found.state == state and (f": a time {hours} hours from now, so the clock was wrong" in found.words) == (state == WARNING)
+    following.Following("http://a", time.time() + hours * 60 * MINUTE, refused=["once"]).keep(tmp_path / "state.json")
+    assert look(tmp_path / "state.json").state == WRONG
+
+
 def test_how_a_standby_is_in_a_line(monkeypatch: pytest.MonkeyPatch) -> None:
     since = time.time() - 600 * MINUTE
     well = following.Following("http://a", since)
