@@ -388,13 +388,16 @@ def test_a_halted_office_is_not_waited_for_for_ever(copy: pathlib.Path, tmp_path
 
 
 def test_the_time_of_a_copy_is_that_of_what_it_holds(copy: pathlib.Path, tmp_path: pathlib.Path, program: str) -> None:
-    slow = tmp_path / "society"
-    slow.write_text(f'#!/bin/sh\ntouch "$0.begun"\nsleep 1.1\nexec {program} "$@"\n')
-    slow.chmod(0o755)
-    done = backed_up(copy, tmp_path, str(slow))
-    assert (done.returncode, done.stderr) == (0, "")
+    """What came while it was copied, joined and audited is not in it."""
+    tools = tmp_path / "tools"
+    tools.mkdir()
+    # (the time that a file system gives a file may be some milliseconds old)
+    (tools / "cp").write_text('#!/bin/sh\n[ -e "$0.begun" ] || date +%s.%N > "$0.begun"\nsleep 0.2\nexec /bin/cp "$@"\n')
+    (tools / "cp").chmod(0o755)
+    words = [BACKUP, "--db", copy, "--to", tmp_path / "backups", "--program", program]
+    subprocess.run(words, env={**os.environ, "PATH": f"{tools}:{os.environ['PATH']}"}, check=True, stdout=subprocess.DEVNULL)
     [made] = (tmp_path / "backups").glob("office-*.db")
-    assert made.stat().st_mtime < (tmp_path / "society.begun").stat().st_mtime
+    assert made.stat().st_mtime <= float((tools / "cp.begun").read_text())
 
 
 def test_what_is_no_copy_is_not_taken_away(copy: pathlib.Path, tmp_path: pathlib.Path, program: str) -> None:
