@@ -2,6 +2,7 @@
 
 import dataclasses
 import datetime
+import re
 from collections.abc import Iterator
 
 from society_office.fields import (
@@ -22,6 +23,13 @@ from society_office.fields import (
 )
 from society_office.records import text
 from society_office.work_faults import MOVED, CheckedWork, Fault, WorkReader, is_moved
+
+
+CUT = "a file that was cut while it was sent or saved"
+# A trailer that begins no line.
+JOINED = re.compile(rb".TRL[0-9]{5}", re.DOTALL)
+NO_LINES = "the line ends are missing, or are CR alone: end each record with CR and LF, or with LF"
+DOS_END, DOS_MARK = b"\x1a", "an end mark of old programs, Ctrl-Z: take it away"
 
 
 @dataclasses.dataclass
@@ -64,7 +72,7 @@ class FileReader:
             self.read_header(self.lines[0])
             if (at := self.read_groups()) == 0:
                 end = len(self.lines) + 1
-                self.note(FileFault.NO_TRAILER, end, "the end of the file", b"", "a file that was cut while it was sent or saved")
+                self.note(FileFault.NO_TRAILER, end, "the end of the file", b"", NO_LINES if JOINED.search(self.lines[-1]) else CUT)
             else:
                 self.read_rest(at)
         # A line that is misplaced in a group is read on as if the group had ended; what is wrong with it then does not count.
@@ -152,7 +160,8 @@ class FileReader:
         """The first line after TRL that is not blank."""
         for number in range(at, len(self.lines) + 1):
             if self.lines[number - 1].strip(b" "):
-                self.note(FileFault.BEHIND_TRAILER, number, "the line", self.lines[number - 1][:20])
+                hint = DOS_MARK if self.lines[number - 1].startswith(DOS_END) else ""
+                self.note(FileFault.BEHIND_TRAILER, number, "the line", self.lines[number - 1][:20], hint)
                 return
 
     def compare(self, number: FileFault, at: int, places: tuple[Field, ...], wanted: tuple[int, ...]) -> None:

@@ -33,6 +33,7 @@ MOVED = (
     "a letter before it takes two bytes or more in UTF-8 and moves what stands behind it: fill each field to its bytes, or write ISO 8859-1"
 )
 MOST_WARNINGS = 10
+CR_TWICE = "the line ends with CR twice"
 ASCII_ONLY = "only letters, digits and signs of ASCII may stand here"
 
 
@@ -164,7 +165,7 @@ class WorkReader:
         """The fault of an IP #; answers the number."""
         number = place.of(line).strip(b" ")
         if not is_printable(number):
-            self.note(WorkFault.IP_NUMBER, at, place, number, ASCII_ONLY)
+            self.note(WorkFault.IP_NUMBER, at, place, number, CR_TWICE if number.endswith(b"\r") else ASCII_ONLY)
         return number
 
     def read_shares(self, at: int, line: bytes, places: Shares) -> None:

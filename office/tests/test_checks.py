@@ -261,6 +261,22 @@ def test_a_file_of_works_without_its_header(tmp_path: pathlib.Path, program: str
         assert said in run("check", tmp_path / "it.cwr", "--program", program, status=1)
 
 
+@pytest.mark.parametrize(
+    "body, said",
+    [
+        (FIRST.replace(b"\r\n", b""), "line 2, the end of the file (the line ends are missing, or are CR alone"),
+        (FIRST.replace(b"\r\n", b"\r"), "line 2, the end of the file (the line ends are missing, or are CR alone"),
+        (FIRST[:-40], "the end of the file (a file that was cut while it was sent or saved)"),
+        (FIRST + b"\x1a", "line 12, ?, the line: '?' (an end mark of old programs, Ctrl-Z: take it away)"),
+        (FIRST + FIRST, "line 12, HDR, the line: 'HDRPB000000012EXAMPL': after TRL"),
+        (FIRST.replace(b"\r\n", b"\r\r\n"), "line 8, PWR, writer IP # 102-110: 'A1' (the line ends with CR twice)"),
+    ],
+)
+def test_what_was_done_to_a_file_of_works(tmp_path: pathlib.Path, program: str, body: bytes, said: str) -> None:
+    (tmp_path / "it.cwr").write_bytes(body)
+    assert said in run("check", tmp_path / "it.cwr", "--program", program, status=1, out=True)
+
+
 def test_spreadsheets(tmp_path: pathlib.Path, program: str) -> None:
     (tmp_path / "it.csv").write_text("isrc,plays,seconds\nATABC2600001,3,3:00\nATABC2600001,1.000,5\n,,\n")
     said = run("check", tmp_path / "it.csv", "--program", program, status=1, out=True)
