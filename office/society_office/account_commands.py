@@ -9,6 +9,8 @@ from society_office import balances, explain_output
 from society_office.command_words import COPY_HELP, PATH, POOL, POOLS_HELP, Command, noted
 from society_office.errors import OfficeError
 from society_office.explaining import Explainer
+from society_office.fields import RECORDING
+from society_office.lines import NO_RECORDING
 from society_office.numbering import as_sent, rank_of
 from society_office.pages import write_bytes, write_text
 from society_office.pool_names import pool_names
@@ -58,8 +60,8 @@ def explain(
     The plays of its recording by station and return, the recording's part of the pool, whose work it is, the account's share, and who
     got the last units. It is reckoned again from returns, works and the order; where the credits are others, that is said, with status 1.
     """
-    wanted = isrc.upper().replace("-", "") if isrc and isrc != "-" else isrc
-    if wanted is not None and not (wanted and wanted.isascii()):
+    wanted = isrc.upper().replace("-", "") if isrc and isrc != NO_RECORDING else isrc
+    if wanted not in (None, NO_RECORDING) and not RECORDING.fullmatch(str(wanted).encode(errors="replace")):
         raise OfficeError(f"{isrc!r} is no ISRC: write ATABC2600001")
     names = pool_names(copy, pools)
     with open_whole(copy) as opened:

@@ -120,6 +120,8 @@ def statement(
         statements = Statements(noted(opened))
         if form == "csv":
             found = statement_output.write_csv(statements, key or "", names, since, output)
+            if not found.sums.count:
+                say(f"{found.key}: {statement_output.verdict(found)}", error=True)
         else:
             found = statements.of(key or "", since)
             statement_output.write(found, names, form, output, opened.taken)

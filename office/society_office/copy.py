@@ -124,6 +124,13 @@ class Copy:
         """One sender's line; None where nothing of it has come."""
         return next((it for it in self.lines() if it.sender == sender), None)
 
+    def need_line(self, sender: str, hint: str = "") -> Line:
+        """A sender with its front; an OfficeError where nothing has come of it, with a hint behind its key."""
+        if (found := self.line(sender)) is None:
+            listed = ", ".join(it.sender for it in self.lines()[:10]) or "no sender"
+            raise OfficeError(f"nothing has come of {sender}{hint}; the copy has {listed}")
+        return found
+
     def save(self, target: pathlib.Path) -> None:
         """Writes what the copy holds into a file of its own, each page as it is: sqlite3's own backup writes no sum of the first one."""
         book_log.join(self.file, self.file.with_name(self.file.name + "-wal"), target)

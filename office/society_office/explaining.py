@@ -95,7 +95,7 @@ class Explainer:
 
     def of(self, account: str, isrc: str | None = None) -> Explanation:
         """What the pool credits to an account; an OfficeError where it credits nothing, or where the copy has other credits than these."""
-        if is_sender(account):
+        if is_sender(self.copy, account):
             raise OfficeError(f"{account} is a sender of files: name an account, as `society-office statement COPY {account}` lists them")
         credited = self.credited(account, isrc)
         if not credited:

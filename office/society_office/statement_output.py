@@ -33,7 +33,8 @@ def verdict(found: Statement) -> str:
     """What the statement comes to, beside the balance."""
     part = "" if found.is_whole else f" by the pools from {found.since} on"
     if not found.sums.count and found.is_whole:
-        return "no credit: no pool has credited " + ("a work of this sender" if found.is_of_publisher else "this account")
+        whose = "a work of this sender" if found.is_of_publisher else "this account"
+        return f"no credit: no pool has credited {whose}" + ("" if found.is_named else ", and no work names it: look whether it is right")
     if not found.sums.count:
         return f"no credit{part}" + ("" if found.balance is None else f"; the balance over all pools is {found.balance:,}")
     if found.balance is None:

@@ -21,6 +21,8 @@ from society_office.pool_names import PoolNames, named
 from society_office.records import UNCLAIMED, Works, sender_names
 
 SENDER = re.compile(r"[0-9A-Z]{11}", re.ASCII)
+# What is a sender by its form, and an account that was mistyped by its looks.
+MISTYPED, HINT = re.compile(r"I[0-9]{10}|[0-9]{11}", re.ASCII), " (an account of an IPI name number is I and eleven digits)"
 ACCOUNT = re.compile(r"UNCLAIMED|I[0-9]{11}|P[0-9A-Z]{11}[!-~]([ -~]{0,7}[!-~])?", re.ASCII)
 # How many lines are noted at once.
 AT_ONCE = 10_000
@@ -51,6 +53,7 @@ class Statement:
     balance: int | None
     publishers: dict[str, str]
     accounts: dict[str, str]
+    is_named: bool = True
 
     @property
     def is_of_publisher(self) -> bool:
@@ -123,21 +126,29 @@ class Statements:
 
     def of(self, key: str, since: int = 1) -> Statement:
         """The statement of an account or of a sender of files; an OfficeError where the key is neither."""
-        if is_sender(key):
+        if is_sender(self.copy, key):
             credits, sums = self.lines_of_publisher(key, since).read()
             accounts = names_of(parties(self.copy, key))
             return Statement(key, self.names.get(key, ""), self.copy.name, since, credits, sums, None, self.names, accounts)
         lines, name = self.lines_of_account(key, since)
         credits, sums = lines.read()
-        return Statement(key, name, self.copy.name, since, credits, sums, self.balance(key), self.names, {key: name})
+        listed = {key: name} if sums.count else self.named(key)
+        name = listed.get(key, name)
+        return Statement(key, name, self.copy.name, since, credits, sums, self.balance(key), self.names, {key: name}, key in listed)
 
     def write_csv(self, key: str, since: int, out: TextIO, names: PoolNames) -> Statement:
         """Writes every line as CSV while it is read; answers the statement without lines and names, to be compared with the balance."""
-        if is_sender(key):
-            sums, balance = self.lines_of_publisher(key, since).write(out, names), None
-        else:
-            sums, balance = self.lines_of_account(key, since)[0].write(out, names), self.balance(key)
-        return Statement(key, "", self.copy.name, since, [], sums, balance, {}, {})
+        if is_sender(self.copy, key):
+            sums = self.lines_of_publisher(key, since).write(out, names)
+            return Statement(key, "", self.copy.name, since, [], sums, None, {}, {})
+        sums = self.lines_of_account(key, since)[0].write(out, names)
+        return Statement(key, "", self.copy.name, since, [], sums, self.balance(key), {}, {}, bool(sums.count) or key in self.named(key))
+
+    def named(self, account: str) -> dict[str, str]:
+        """The account with its name, where a work names it now: one that was mistyped is not to be told as one that was not played."""
+        if account == UNCLAIMED:
+            return {account: ""}
+        return {key: name for key, name in names_of(parties(self.copy)).items() if key == account}
 
     def balance(self, account: str) -> int:
         """An account's balance."""
@@ -238,14 +249,17 @@ class Statements:
             yield Statement(sender, self.names.get(sender, ""), self.copy.name, since, [], Sums(), None, self.names, names)
 
 
-def is_sender(key: str) -> bool:
-    """Whether a key is a sender of files, not an account; an OfficeError where it is neither."""
+def is_sender(copy: Copy, key: str) -> bool:
+    """Whether a key is a sender of files, not an account; an OfficeError where it is neither, or where nothing has come of the sender."""
     if not SENDER.fullmatch(key) and not ACCOUNT.fullmatch(key):
         raise OfficeError(
             f"{key} is no account (I00000000199, PPB000000012A1, UNCLAIMED) and no sender of files (PB000000012); "
             "`society-office parties COPY` lists the names of accounts"
         )
-    return SENDER.fullmatch(key) is not None
+    if not SENDER.fullmatch(key):
+        return False
+    copy.need_line(key, HINT if MISTYPED.fullmatch(key) else "")
+    return True
 
 
 def by_pool(rows: Iterable[tuple[int, str, str | None, int]]) -> Pools:

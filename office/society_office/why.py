@@ -7,7 +7,6 @@ from society_office import faults
 from society_office.checking import detail, explained
 from society_office.copy import Copy
 
-from society_office.errors import OfficeError
 from society_office.numbering import Line, as_sent, counted, ranges, segment_text
 from society_office.records import sender_names, shown_number, transactions
 from society_office.work_faults import UTF_8, CheckedWork, checked_work, first_warnings, warned
@@ -69,9 +68,7 @@ def since_text(registered: list[tuple[int, int]], number: int) -> str:
 def story(copy: Copy, sender: str) -> Story:
     """What became of a sender's files; an OfficeError where it has sent none."""
     copy.need_derived()
-    line = copy.line(sender)
-    if line is None:
-        raise OfficeError(f"nothing has come of {sender}; the copy has {', '.join(it.sender for it in copy.lines()[:10]) or 'no sender'}")
+    line = copy.need_line(sender)
     registered: dict[str, list[tuple[int, int]]] = {}
     for work, revision, number in copy.rows("SELECT work, revision, number FROM versions WHERE sender = ? ORDER BY work, revision", sender):
         registered.setdefault(work, []).append((revision, number))

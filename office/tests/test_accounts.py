@@ -83,6 +83,9 @@ def test_the_name_of_an_explained_pool_is_no_formula(copy: pathlib.Path) -> None
         (["PB000000012", "--pool", 1], "is a sender of files"),
         (["I295", "--pool", 1], "is no account"),
         (["I00000000295", "--pool", 1, "--isrc", ""], "'' is no ISRC"),
+        (["I00000000295", "--pool", 1, "--isrc", "FR EPS 26 00002"], "'FR EPS 26 00002' is no ISRC: write ATABC2600001"),
+        (["I00000000295", "--pool", 1, "--isrc", "\udcff"], "is no ISRC: write ATABC2600001"),
+        (["I0000000295", "--pool", 1], "nothing has come of I0000000295 (an account of an IPI name number is I and eleven digits)"),
     ],
 )
 def test_what_can_not_be_explained(copy: pathlib.Path, words: list[object], said: str) -> None:

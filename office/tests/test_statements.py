@@ -10,8 +10,8 @@ import pytest
 import quarter
 import reckoning
 from click.testing import CliRunner
-from conftest import further
-from office_value import File, Pool, Return
+from conftest import further, made
+from office_value import File, Office, Pool, Return
 from society_office import lines, order_output, parties, statement_output, statements
 from society_office.cli import main
 from society_office.copy import open_copy
@@ -285,7 +285,26 @@ def test_a_key_that_is_none(copy: pathlib.Path) -> None:
     folder = copy.parent / "empty"
     assert "is no account" in run("statement", copy, "I199", "--format", "csv", "--output", folder / "it.csv", status=1)
     assert list(folder.iterdir()) == []
-    assert "no pool has credited this account" in run("statement", copy, "I00000009999")
+    for key in ("I0000000295", "00000000295"):
+        said = run("statement", copy, key, "--format", "csv", "--output", folder / "it.csv", status=1)
+        assert f"nothing has come of {key} (an account of an IPI name number is I and eleven digits)" in said
+    assert "nothing has come of PB000000099; the copy has PB000000012" in run("statement", copy, "PB000000099", status=1)
+    assert list(folder.iterdir()) == []
+
+
+UNPLAYED = "no credit: no pool has credited this account"
+
+
+def test_an_account_without_a_credit(copy: pathlib.Path, program: str, tmp_path: pathlib.Path) -> None:
+    """Of one that works name the name is told, and of one that none names that it may be wrong."""
+    unknown = f"{UNPLAYED}, and no work names it: look whether it is right"
+    assert run("statement", copy, "I00000009999") == f"I00000009999\n{unknown}\n"
+    assert "No pool has credited this account, and no work names it." in run("statement", copy, "I00000009999", "--format", "html")
+    unplayed = made(program, Office(quarter.NAMES, [File(*quarter.FILES[0])]), tmp_path)
+    assert run("statement", unplayed, "I00000000295") == f"I00000000295 ANNA WRITER\n{UNPLAYED}\n"
+    for key, said in (("I00000009999", unknown), ("I00000000295", UNPLAYED), ("UNCLAIMED", UNPLAYED)):
+        done = CliRunner(mix_stderr=False).invoke(main, ["statement", str(unplayed), key, "--format", "csv"], catch_exceptions=False)
+        assert done.exit_code == 0 and done.stdout.count("\n") == 1 and done.stderr == f"{key}: {said}\n"
 
 
 def test_the_name_that_most_works_have_comes_first() -> None:
