@@ -9,7 +9,7 @@ from collections.abc import Mapping, Sequence
 from rich.console import Console
 
 from society_office.correcting import Correction, Line
-from society_office.follow_ups import corrects
+from society_office.follow_ups import PAID, corrects
 from society_office.numbering import counted
 from society_office.order_output import MOST_ROWS, tell_older
 from society_office.pages import write_text
@@ -90,7 +90,7 @@ def write(folder: pathlib.Path, it: Correction, names: Mapping[str, str]) -> Non
     if it.outside:
         say(f"{put('-list.csv', as_csv(it.outside, names))} lists what is settled outside", error=True)
     if it.unpaid:
-        file = put("-paid.json", it.unpaid.json + "\n")
+        file = put(PAID, it.unpaid.json + "\n")
         say(f"{file} goes to a free pool: by its 0 units no other pool can pay these returns", error=True)
     if it.order:
         file = put(".json", it.order.json + "\n")

@@ -9,6 +9,8 @@ from collections.abc import Iterable, Iterator, Mapping
 from society_office.plays import HEADER, MOST_PLAYS, MOST_ROWS, MOST_SECONDS
 
 SETTLED, CORRECTED = "SETTLED", "CORRECTED"
+# The end of the name of the order of no units that belongs to a correction.
+PAID = "-paid.json"
 REPORTER = re.compile(rf"{SETTLED}|{CORRECTED}[1-9][0-9]{{0,4}}", re.ASCII)
 
 

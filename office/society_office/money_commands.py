@@ -119,7 +119,7 @@ def rehearse(copy: pathlib.Path, order: pathlib.Path, pool: int | None, void: pa
     each account is credited. The status is 1 where the program refuses the order.
     """
     barred, pools = void_list(copy, void), pool_names(copy)
-    with open_whole(copy) as opened, rehearsal.rehearse(find_program(program), noted(opened), order.read_bytes(), pool, barred) as found:
+    with open_whole(copy) as opened, rehearsal.rehearse(find_program(program), noted(opened), order, pool, barred) as found:
         if form == "json":
             say(rehearsal_output.as_json(found))
         elif form == "csv" and found.copy is not None:

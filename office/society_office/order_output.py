@@ -31,7 +31,8 @@ def tell_older(folder: pathlib.Path, patterns: Iterable[str], written: Iterable[
     """Says what stands in a folder of an earlier run, which is not to be sent or settled again."""
     names = {*written}
     if left := sorted(name for pattern in patterns for name in older(folder, pattern, names)):
-        say(f"{', '.join(left)} in {folder} is of an earlier run: what is written now goes without it", error=True)
+        words = ("is", "it") if len(left) == 1 else ("are", "them")
+        say(f"{', '.join(left)} in {folder} {words[0]} of an earlier run: what is written now goes without {words[1]}", error=True)
 
 
 def claimants_text(it: Item) -> str:

@@ -5,21 +5,25 @@ import collections
 import contextlib
 import dataclasses
 import json
+import pathlib
 from collections.abc import Iterator, Mapping, Sequence
 from typing import Any
 
 from society_office import faults
 from society_office.claims import Claims
 from society_office.copy import Copy, open_copy
-from society_office.follow_ups import corrected_by
+from society_office.follow_ups import PAID, corrected_by
 from society_office.numbering import as_sent, rank_of
 from society_office.orders import free_pool
 from society_office.plays import BOM
 from society_office.program import Answer, trial_of
+from society_office.records import text
 from society_office.return_names import Entry, Return, are_listed, names_text
 from society_office.settling import is_open
 from society_office.stored_returns import Stored, are_of_one_copy, far_ones, same_plays, stored_returns
 
+# Characters that are shown of what is no JSON.
+MOST_SHOWN = 20
 # A pool that was closed by this order before, and one that is closed by it now.
 REPEATED, NEW = 200, 201
 
@@ -42,15 +46,16 @@ class Rehearsal:
 
 
 @contextlib.contextmanager
-def rehearse(program: str, copy: Copy, order: bytes, pool: int | None, void: Sequence[Entry]) -> Iterator[Rehearsal]:
+def rehearse(program: str, copy: Copy, file: pathlib.Path, pool: int | None, void: Sequence[Entry]) -> Iterator[Rehearsal]:
     """Sends an order to a throw-away office over the copy; what it made of it can be read while the `with` lasts."""
     copy.need_derived()
+    order = file.read_bytes()
     number = pool or free_pool(copy)
     with trial_of(program, copy) as trial:
         answer = trial.office.ask("PUT", f"/v1/pools/{number}", order)
         trial.end()
         if answer.status not in (REPEATED, NEW):
-            yield Rehearsal(number, answer, faults.refusal_text("order", answer) + mark_hint(order))
+            yield Rehearsal(number, answer, faults.refusal_text("order", answer) + form_hint(order))
             return
         with open_copy(trial.database) as then:
             given = json.loads(order)
@@ -59,13 +64,32 @@ def rehearse(program: str, copy: Copy, order: bytes, pool: int | None, void: Seq
             notes = [*notes_on_keys(order), *notes_on_returns(then, number, given, named, stored, void)]
             if not is_own(named):
                 notes += [*notes_on_left(named, stored, void), *notes_on_cut(copy, given["cut"])]
+            notes += notes_on_paid(file.with_name(f"{file.stem}{PAID}"), stored)
             yield Rehearsal(number, answer, "", then, named, notes)
 
 
-def mark_hint(order: bytes) -> str:
-    """What is to be said of an order that was refused and begins with what an editor puts before a text; the empty text of others."""
-    is_marked = order.startswith((BOM, codecs.BOM_UTF16_LE, codecs.BOM_UTF16_BE))
-    return "; a byte order mark stands before it: save it as UTF-8 without one" if is_marked else ""
+def form_hint(order: bytes) -> str:
+    """What is to be said of an order that was refused and is no JSON, or begins with what an editor puts before a text; else nothing."""
+    if order.startswith((BOM, codecs.BOM_UTF16_LE, codecs.BOM_UTF16_BE)):
+        return "; a byte order mark stands before it: save it as UTF-8 without one"
+    try:
+        json.loads(order)
+    except json.JSONDecodeError as error:
+        rest = text(error.doc[error.pos : error.pos + MOST_SHOWN].encode(errors="replace"))
+        return f"; line {error.lineno}, character {error.colno}: {f'{rest!r} is wrong there' if rest else 'it ends too early'}"
+    except (UnicodeDecodeError, RecursionError):
+        return ""
+    return ""
+
+
+def notes_on_paid(file: pathlib.Path, stored: Mapping[Return, Stored]) -> Iterator[str]:
+    """The returns of an order of no units that `correct` has written beside this one, where no pool has paid them yet."""
+    try:
+        named = [(str(reporter), int(number)) for reporter, number in json.loads(file.read_bytes())["returns"]]
+    except (OSError, ValueError, TypeError, KeyError):
+        return
+    if left := [it for it in named if it in stored and not stored[it].pool]:
+        yield f"close a pool by {file.name} first: {names_text(left)} is still to be paid, and another pool may pay it again"
 
 
 def notes_on_keys(order: bytes) -> Iterator[str]:

@@ -147,6 +147,21 @@ def test_plays_that_a_correction_of_another_pool_may_have_paid(copy: pathlib.Pat
     assert "every account was paid what is right" in run("correct", then, 7, "--program", program)
 
 
+def test_what_a_correction_has_to_have_paid_first(copy: pathlib.Path, program: str, tmp_path: pathlib.Path) -> None:
+    into, note = tmp_path / "corrected", "note: close a pool by CORRECTED1-paid.json first: TV1/1 is still to be paid"
+    named = [word for it in ("RADIO1/1", "RADIO2/1", "TV1/1") for word in ("--returns", it)]
+    run("correct", copy, 1, "--amount", 2_000_003, *named, "--into", into, "--program", program)
+    requests = [("/returns/CORRECTED1/1", (into / "CORRECTED1-1.csv").read_bytes())]
+    then = further(program, copy, requests, tmp_path / "then.db")
+    assert note in run("rehearse", then, into / "CORRECTED1.json", "--program", program)
+    requests.append(("/pools/6", (into / "CORRECTED1-paid.json").read_bytes()))
+    then = further(program, copy, requests, tmp_path / "paid.db")
+    assert "-paid.json" not in run("rehearse", then, into / "CORRECTED1.json", "--program", program)
+    for text in ("", "[]", '{"returns":[[[1],2]]}', '{"returns":[1]}', '{"returns":7}'):
+        (into / "CORRECTED1-paid.json").write_text(text)
+        assert "-paid.json" not in run("rehearse", then, into / "CORRECTED1.json", "--program", program)
+
+
 def run_errors(copy: pathlib.Path) -> str:
     """The remarks of a proposed order."""
     from society_office.command_words import void_list
@@ -393,7 +408,7 @@ def test_what_an_earlier_run_has_left_is_told(copy: pathlib.Path, program: str, 
     assert "of an earlier run" not in said("--amount", 2_000_000)
     assert "CORRECTED1.json" not in said("--amount", 2_500_000).partition("then ")[0]
     assert f"CORRECTED1.json in {tmp_path} is of an earlier run" in said("--amount", 0)
-    assert f"CORRECTED1-1.csv, CORRECTED1-list.csv, CORRECTED1.json in {tmp_path} is of an earlier run" in said()
+    assert f"CORRECTED1-1.csv, CORRECTED1-list.csv, CORRECTED1.json in {tmp_path} are of an earlier run" in said()
 
 
 def test_what_is_written_is_read_as_steps(copy: pathlib.Path, program: str, tmp_path: pathlib.Path) -> None:

@@ -113,6 +113,26 @@ def test_an_order_that_is_refused(office: pathlib.Path, program: str, tmp_path: 
     assert ("a byte order mark stands before it" in said) == hint
 
 
+@pytest.mark.parametrize(
+    "order, hint",
+    [
+        (b'{"amount":500,00,"cut":[],"returns":[]}', """line 1, character 15: '00,"cut":[],"returns' is wrong there"""),
+        (b'{"amount":500,\n"cut":[],"returns":[],}', "line 2, character 23: '}' is wrong there"),
+        ('{“amount”:500,"cut":[],"returns":[]}'.encode(), """line 1, character 2: '“amount”:500,"cut":[' is wrong there"""),
+        (b'{"amount":500,"cut":[],"returns":[', "line 1, character 35: it ends too early"),
+        (b"", "line 1, character 1: it ends too early"),
+        (b"isrc,plays,seconds", "line 1, character 1: 'isrc,plays,seconds' is wrong there"),
+        (b'{"amount":"500","cut":[],"returns":[]}', ""),
+        (b'{"amount":"\xff"}', ""),
+        (b"[" * 100_000, ""),
+    ],
+)
+def test_an_order_that_is_no_json(office: pathlib.Path, program: str, tmp_path: pathlib.Path, order: bytes, hint: str) -> None:
+    (tmp_path / "order.json").write_bytes(order)
+    said = run("rehearse", office, tmp_path / "order.json", "--program", program, status=1, out=True)
+    assert said.startswith("REFUSED, status 422: order fault 1: ") and said.endswith(f'"PR" or "MR"{hint and "; "}{hint}\n')
+
+
 def test_a_repeat_is_no_new_pool(office: pathlib.Path, program: str) -> None:
     closed = quarter.POOLS[0]
     (office.parent / "order.json").write_bytes(order_body(closed))

@@ -109,7 +109,7 @@ def test_both_rights_have_returns_of_their_own(copy: pathlib.Path, tmp_path: pat
     said = CliRunner(mix_stderr=False).invoke(main, ["unclaimed", str(closed), "--settle", str(tmp_path / "again")])
     assert said.stderr == "nothing is left that has one owner now: nothing was written\n" and not (tmp_path / "again").exists()
     said = CliRunner(mix_stderr=False).invoke(main, ["unclaimed", str(closed), "--settle", str(tmp_path / "round")])
-    assert f"MR.csv, MR.json, PR.csv, PR.json in {tmp_path / 'round'} is of an earlier run" in said.stderr
+    assert f"MR.csv, MR.json, PR.csv, PR.json in {tmp_path / 'round'} are of an earlier run" in said.stderr
 
 
 def test_the_cut_of_a_round_where_senders_are_too_many(copy: pathlib.Path, monkeypatch: pytest.MonkeyPatch) -> None:
