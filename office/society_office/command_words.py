@@ -59,5 +59,5 @@ def noted(copy: Copy) -> Copy:
 
 def void_list(copy: pathlib.Path, named: pathlib.Path | None) -> list[Entry]:
     """The returns never to be named: those of the list that is named, else of void.txt beside the copy."""
-    beside = copy.with_name("void.txt")
+    beside = copy.parent / "void.txt"
     return listed(named or beside) if named or beside.exists() else []

@@ -105,7 +105,7 @@ def drafted(target: pathlib.Path) -> Iterator[pathlib.Path]:
     written itself.
     """
     place = pathlib.Path(os.path.realpath(target))
-    draft = place.with_name(f".{place.name}.new")
+    draft = place.parent / f".{place.name}.new"
     try:
         if place.is_file() and begins_as_a_book(place):
             raise OfficeError(f"{target} is a database, or the log of one, and would be replaced: name another file")

@@ -40,7 +40,7 @@ POOL_COLUMNS = ["pool_name", "first_day", "last_day"]
 
 def pool_names(copy: pathlib.Path, named: pathlib.Path | None = None) -> PoolNames:
     """The names of a list, else of pools.txt beside the copy; an OfficeError with the line of what is none, or is there twice."""
-    beside = copy.with_name(FILE)
+    beside = copy.parent / FILE
     found: PoolNames = {}
     for where, words in entries_of(named or beside) if named or beside.exists() else ():
         entry = ENTRY.fullmatch(words)

@@ -155,6 +155,21 @@ def test_pages_take_the_place_of_nothing_but_a_folder(copy: pathlib.Path, place:
     assert "is no folder of pages" in said and copy.read_bytes() == before and list(copy.parent.iterdir()) == [copy]
 
 
+@pytest.mark.parametrize("place", [".", "", "/", "/.."])
+@pytest.mark.parametrize("words", ["statement {} I00000000199", "balances {}", "propose {} --amount 1", "unclaimed {}", "correct {} 1"])
+def test_a_folder_in_the_place_of_a_copy(tmp_path: pathlib.Path, monkeypatch: pytest.MonkeyPatch, words: str, place: str) -> None:
+    monkeypatch.chdir(tmp_path)
+    said = run(*(it.format(place) for it in words.split()), status=1)
+    assert said == f"society-office: {pathlib.Path(place)} is no file\n"
+
+
+@pytest.mark.parametrize("place", [".", "/"])
+@pytest.mark.parametrize("words", ["statement {} I00000000199 --format csv", "parties {}", "propose {} --amount 1"])
+def test_a_folder_in_the_place_of_what_is_written(copy: pathlib.Path, words: str, place: str) -> None:
+    said = run(*words.format(copy).split(), "--output", place, status=1)
+    assert said.endswith(f"society-office: {place} could not be written: Is a directory\n")
+
+
 def test_a_pipe_in_the_place_of_the_log_of_a_copy(copy: pathlib.Path) -> None:
     log = copy.with_name("copy.db-wal")
     os.mkfifo(log)
