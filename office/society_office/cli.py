@@ -18,11 +18,13 @@ from society_office.command_words import COPY_HELP, NUMBER, PATH, POOL, POOLS_HE
 from society_office.command_words import noted, void_list
 from society_office.copy import beside
 from society_office.errors import OfficeError
+from society_office.orders import LAST_POOL
 from society_office.pages import write_text
 from society_office.pool_names import pool_names
 from society_office.site import write_site
 from society_office.program import Office, ReplayOffice, find_program, open_whole, trial_of
 from society_office.soundness import need_sound
+from society_office.spans import Span
 from society_office.statements import Statements
 from society_office.terminal import doing, drop_output, prepare_streams, say
 
@@ -72,6 +74,7 @@ def main() -> None:
 @click.argument("copy", type=PATH)
 @click.argument("key", required=False)
 @click.option("--since", type=POOL, default=1, metavar="POOL", help="Only the pools from this number on.")
+@click.option("--until", type=POOL, default=LAST_POOL, metavar="POOL", show_default=False, help="Only the pools up to this number.")
 @click.option("--format", "form", type=click.Choice(["table", "csv", "html", "pdf"]), default="table", help="How it is written.")
 @click.option("--output", type=PATH, help="The file to write; a PDF needs one. Without it, standard output.")
 @click.option(
@@ -89,6 +92,7 @@ def statement(
     copy: pathlib.Path,
     key: str | None,
     since: int,
+    until: int,
     form: str,
     output: pathlib.Path | None,
     everybody: bool,
@@ -112,18 +116,20 @@ def statement(
         raise click.UsageError("--pdf belongs to --all: one statement is a PDF by --format pdf")
     if form == "pdf" and output is None:
         raise click.UsageError("a PDF needs --output FILE")
-    names = pool_names(copy, pools)
+    if until < since:
+        raise click.UsageError(f"--until {until} is below --since {since}")
+    names, span = pool_names(copy, pools), Span(since, until)
     with open_whole(copy) as opened:
         if into is not None:
             need_sound(noted(opened), sums=True)
-            sys.exit(statement_output.write_each(opened, names, since, into, pdf))
+            sys.exit(statement_output.write_each(opened, names, span, into, pdf))
         statements = Statements(noted(opened))
         if form == "csv":
-            found = statement_output.write_csv(statements, key or "", names, since, output)
+            found = statement_output.write_csv(statements, key or "", names, span, output)
             if not found.sums.count:
                 say(f"{found.key}: {statement_output.verdict(found)}", error=True)
         else:
-            found = statements.of(key or "", since)
+            found = statements.of(key or "", *span)
             statement_output.write(found, names, form, output, opened.taken)
     if not found.agrees:
         fail(f"{found.key} has credits of {found.total:,} units, and a balance of {found.balance:,}: ask `society audit` about the copy")

@@ -13,6 +13,7 @@ from society_office.claims import NEVER, Claim
 from society_office.copy import Copy
 from society_office.lines import COLUMNS, NO_WORK, Credit, Heads, Lines, Sums, Words, end_of
 from society_office.pool_names import PoolNames
+from society_office.spans import Span
 
 # Pools whose rows are read beside, at once and ahead of what is written.
 AT_ONCE, AHEAD = 2, 64
@@ -20,10 +21,10 @@ AT_ONCE, AHEAD = 2, 64
 
 @dataclasses.dataclass(kw_only=True)
 class ManyLines(Lines):
-    """The lines of an account with very many, out of the rows of its pools from a number on."""
+    """The lines of an account with very many, out of the rows of some pools."""
 
     copy: Copy
-    since: int
+    span: Span
 
     def write(self, out: TextIO, names: PoolNames) -> Sums:
         """Writes them as CSV with a header; answers their number and the sums by pool. The rows are read beside what looks the works up."""
@@ -45,7 +46,7 @@ class ManyLines(Lines):
         question = """SELECT group_concat(isrc), group_concat(units), sum(units) FROM
           (SELECT isrc, units FROM credits WHERE pool = ? AND +account = ? ORDER BY line)"""
         asked = collections.deque[tuple[int, concurrent.futures.Future[list[Any]]]]()
-        waiting = iter([it for it in self.cuts if it >= self.since])
+        waiting = iter([it for it in self.cuts if self.span.has(it)])
         while True:
             while len(asked) < AHEAD and (pool := next(waiting, None)) is not None:
                 asked.append((pool, self.copy.asked_beside(threads, question, pool, self.account)))
@@ -76,20 +77,21 @@ class ManyLines(Lines):
 
     def summed(self, threads: concurrent.futures.Executor, column: str) -> concurrent.futures.Future[list[tuple[Any, int, int]]]:
         """How many credits there are for each value of a column, and their units."""
-        question = f"SELECT {column}, count(*), sum(units) FROM credits NOT INDEXED WHERE account = ? AND pool >= ? GROUP BY {column}"
-        return self.copy.asked_beside(threads, question, self.account, self.since)
+        question = f"""SELECT {column}, count(*), sum(units) FROM credits NOT INDEXED
+          WHERE account = ? AND pool BETWEEN ? AND ? GROUP BY {column}"""
+        return self.copy.asked_beside(threads, question, self.account, *self.span)
 
     def first_lines(self) -> Iterator[Credit]:
         """The first lines, as many as are held."""
-        question = "SELECT pool, isrc, units FROM credits WHERE +account = ? AND pool >= ? ORDER BY pool, line LIMIT ?"
-        for pool, isrc, units in self.copy.rows(question, self.account, self.since, lines.MOST_HELD):
+        question = "SELECT pool, isrc, units FROM credits WHERE +account = ? AND pool BETWEEN ? AND ? ORDER BY pool, line LIMIT ?"
+        for pool, isrc, units in self.copy.rows(question, self.account, *self.span, lines.MOST_HELD):
             words = self.words_of(self.claims.owner(isrc, self.cuts[pool]))
             yield Credit(pool, self.rights[pool], isrc, *words, self.account or "", units)
 
     def words_by_recording(self) -> tuple[dict[str, Words], set[str]]:
         """The words of the work that owns each recording at all cuts, and the recordings that are not of one work at all of them."""
         words, changing = dict[str, Words](), set[str]()
-        least, greatest = bounds([cut for pool, cut in self.cuts.items() if pool >= self.since])
+        least, greatest = bounds([cut for pool, cut in self.cuts.items() if self.span.has(pool)])
         for isrc, claims in self.claims.by_isrc.items():
             if all(is_steady(it, least, greatest) for it in claims):
                 words[isrc] = self.words_of(self.claims.owner(isrc, greatest))

@@ -12,6 +12,7 @@ from society_office.copy import Copy
 from society_office.numbering import counted
 from society_office.parties import names_of, parties
 from society_office.pool_names import PoolNames
+from society_office.spans import Span
 from society_office.statements import Statement, Statements, Sum, as_csv, folder_of
 from society_office.terminal import console, counting, say, table
 
@@ -31,7 +32,7 @@ def heading(found: Statement) -> str:
 
 def verdict(found: Statement) -> str:
     """What the statement comes to, beside the balance."""
-    part = "" if found.is_whole else f" by the pools from {found.since} on"
+    part = "" if found.is_whole else f" by {found.span.words}"
     if not found.sums.count and found.is_whole:
         whose = "a work of this sender" if found.is_of_publisher else "this account"
         return f"no credit: no pool has credited {whose}" + ("" if found.is_named else ", and no work names it: look whether it is right")
@@ -126,12 +127,12 @@ def write(found: Statement, names: PoolNames, form: str, output: pathlib.Path | 
         pages.write_text(output, as_page(found, names, taken) if form == "html" else as_table(found, names))
 
 
-def write_csv(statements: Statements, key: str, names: PoolNames, since: int, output: pathlib.Path | None) -> Statement:
+def write_csv(statements: Statements, key: str, names: PoolNames, span: Span, output: pathlib.Path | None) -> Statement:
     """Writes every line as CSV, to a file or to standard output; answers the statement without its lines."""
     if output is None:
-        return statements.write_csv(key, since, sys.stdout, names)
+        return statements.write_csv(key, span, sys.stdout, names)
     with pages.new_file(output) as file:
-        return statements.write_csv(key, since, file, names)
+        return statements.write_csv(key, span, file, names)
 
 
 def as_table(found: Statement, names: PoolNames) -> str:
@@ -167,13 +168,13 @@ def tell_older(into: pathlib.Path, written: set[str]) -> None:
         say(f"{counted(len(left), 'statement')} of an earlier run left in {into}: {some}", error=True)
 
 
-def write_each(copy: Copy, names: PoolNames, since: int, into: pathlib.Path, pdf: bool) -> int:
+def write_each(copy: Copy, names: PoolNames, span: Span, into: pathlib.Path, pdf: bool) -> int:
     """Writes the statements of all accounts and publishers; the status is 1 where one differs from its balance."""
     statements = Statements(copy)
     accounts = names_of(parties(copy))
     differ, written = 0, set[str]()
     with pages.locked(into.resolve()), counting("statements", copy.row("SELECT count(*) FROM balances")[0]) as advance:
-        for found in statements.all(since, accounts):
+        for found in statements.all(span, accounts):
             write_one(found, names, copy.taken, into, pdf)
             if not found.agrees:
                 differ += 1
@@ -181,6 +182,6 @@ def write_each(copy: Copy, names: PoolNames, since: int, into: pathlib.Path, pdf
             written.add(folder_of(found.key))
             advance()
     tell_older(into, written)
-    compared = ", all equal to the balances" if since <= 1 else f", by the pools from {since} on"
+    compared = ", all equal to the balances" if span.is_whole else f", by {span.words}"
     say(f"{counted(len(written), 'statement')} in {into}" + (f", {differ:,} of them differ from the balance" if differ else compared))
     return 1 if differ else 0

@@ -19,6 +19,7 @@ from society_office.parties import names_of, parties
 from society_office.plain_text import plain
 from society_office.pool_names import PoolNames, named
 from society_office.records import UNCLAIMED, Works, sender_names
+from society_office.spans import Span
 
 SENDER = re.compile(r"[0-9A-Z]{11}", re.ASCII)
 # What is a sender by its form, and an account that was mistyped by its looks.
@@ -47,7 +48,7 @@ class Statement:
     key: str
     name: str
     office: str
-    since: int
+    span: Span
     credits: list[Credit]
     sums: Sums
     balance: int | None
@@ -73,7 +74,7 @@ class Statement:
     @property
     def is_whole(self) -> bool:
         """Whether it is over all pools."""
-        return self.since <= 1
+        return self.span.is_whole
 
     @property
     def agrees(self) -> bool:
@@ -124,25 +125,26 @@ class Statements:
         title = self.works.title(owner.sender, owner.number, owner.place)
         return Credit(pool, self.rights[pool], isrc, title, owner.work, owner.sender, account, units)
 
-    def of(self, key: str, since: int = 1) -> Statement:
-        """The statement of an account or of a sender of files; an OfficeError where the key is neither."""
+    def of(self, key: str, *pools: int) -> Statement:
+        """The statement of an account or of a sender of files, by all pools or those of a span; an OfficeError where the key is neither."""
+        span = Span(*pools)
         if is_sender(self.copy, key):
-            credits, sums = self.lines_of_publisher(key, since).read()
+            credits, sums = self.lines_of_publisher(key, span).read()
             accounts = names_of(parties(self.copy, key))
-            return Statement(key, self.names.get(key, ""), self.copy.name, since, credits, sums, None, self.names, accounts)
-        lines, name = self.lines_of_account(key, since)
+            return Statement(key, self.names.get(key, ""), self.copy.name, span, credits, sums, None, self.names, accounts)
+        lines, name = self.lines_of_account(key, span)
         credits, sums = lines.read()
         listed = {key: name} if sums.count else self.named(key)
         name = listed.get(key, name)
-        return Statement(key, name, self.copy.name, since, credits, sums, self.balance(key), self.names, {key: name}, key in listed)
+        return Statement(key, name, self.copy.name, span, credits, sums, self.balance(key), self.names, {key: name}, key in listed)
 
-    def write_csv(self, key: str, since: int, out: TextIO, names: PoolNames) -> Statement:
+    def write_csv(self, key: str, span: Span, out: TextIO, names: PoolNames) -> Statement:
         """Writes every line as CSV while it is read; answers the statement without lines and names, to be compared with the balance."""
         if is_sender(self.copy, key):
-            sums = self.lines_of_publisher(key, since).write(out, names)
-            return Statement(key, "", self.copy.name, since, [], sums, None, {}, {})
-        sums = self.lines_of_account(key, since)[0].write(out, names)
-        return Statement(key, "", self.copy.name, since, [], sums, self.balance(key), {}, {}, bool(sums.count) or key in self.named(key))
+            sums = self.lines_of_publisher(key, span).write(out, names)
+            return Statement(key, "", self.copy.name, span, [], sums, None, {}, {})
+        sums = self.lines_of_account(key, span)[0].write(out, names)
+        return Statement(key, "", self.copy.name, span, [], sums, self.balance(key), {}, {}, bool(sums.count) or key in self.named(key))
 
     def named(self, account: str) -> dict[str, str]:
         """The account with its name, where a work names it now: one that was mistyped is not to be told as one that was not played."""
@@ -155,11 +157,11 @@ class Statements:
         found = self.copy.row("SELECT units FROM balances WHERE account = ?", account)
         return int(found[0]) if found else 0
 
-    def lines_of_account(self, account: str, since: int) -> tuple[Lines, str]:
-        """What an account was credited by the pools from this number on, and the account's name."""
+    def lines_of_account(self, account: str, span: Span) -> tuple[Lines, str]:
+        """What an account was credited by some pools, and the account's name."""
         # All rows are looked at in any case; by the key's index they would be looked up one by one.
-        question = "SELECT pool, line, isrc, units FROM credits NOT INDEXED WHERE account = ? AND pool >= ? LIMIT ?"
-        rows = sorted(self.copy.listed(question, account, since, MOST_SORTED + 1))
+        question = "SELECT pool, line, isrc, units FROM credits NOT INDEXED WHERE account = ? AND pool BETWEEN ? AND ? LIMIT ?"
+        rows = sorted(self.copy.listed(question, account, *span, MOST_SORTED + 1))
         are_many = len(rows) > MOST_SORTED
         claims = Claims(self.copy, None if are_many else {it[2] for it in rows})
         pools = by_pool((pool, isrc, None, units) for pool, _, isrc, units in rows)
@@ -171,26 +173,26 @@ class Statements:
             self.works.load((it.sender, it.number, it.place) for it in owners)
         name = self.name_of(account, sorted(owners, key=lambda it: (-it.number, it.sender, it.place)))
         if are_many:
-            pools, copy = self.pools_of(account, since), self.copy
-            return ManyLines(claims, self.works, self.cuts, self.rights, pools, account=account, copy=copy, since=since), name
+            pools, copy = self.pools_of(account, span), self.copy
+            return ManyLines(claims, self.works, self.cuts, self.rights, pools, account=account, copy=copy, span=span), name
         return Lines(claims, self.works, self.cuts, self.rights, pools, account=account), name
 
-    def pools_of(self, account: str, since: int) -> Pools:
+    def pools_of(self, account: str, span: Span) -> Pools:
         """The rows of an account, pool by pool."""
         question = "SELECT isrc, NULL, units FROM credits WHERE pool = ? AND +account = ? ORDER BY line"
         for pool in self.cuts:
-            if pool >= since:
+            if span.has(pool):
                 yield pool, self.copy.listed(question, pool, account)
 
-    def lines_of_publisher(self, sender: str, since: int) -> Lines:
-        """What the works of a sender earned by the pools from this number on, for whatever account."""
+    def lines_of_publisher(self, sender: str, span: Span) -> Lines:
+        """What the works of a sender earned by some pools, for whatever account."""
         own = [it[0] for it in self.copy.rows("SELECT DISTINCT isrc FROM recordings WHERE sender = ?", sender)]
         # Looking 3,000,000 rows up in a table of its own takes two thirds of the time that a list takes.
         self.copy.database.execute("CREATE TEMP TABLE own (isrc TEXT PRIMARY KEY) WITHOUT ROWID")
         self.copy.database.executemany("INSERT INTO own VALUES (?)", ((it,) for it in own))
         question = """SELECT pool, isrc, account, units FROM credits NOT INDEXED
-          WHERE pool >= ? AND isrc IN (SELECT isrc FROM own) ORDER BY pool, line"""
-        pools = by_pool(self.copy.rows(question, since))
+          WHERE pool BETWEEN ? AND ? AND isrc IN (SELECT isrc FROM own) ORDER BY pool, line"""
+        pools = by_pool(self.copy.rows(question, *span))
         return Lines(Claims(self.copy, own), self.works, self.cuts, self.rights, pools, only=sender)
 
     def name_of(self, account: str, owners: Iterable[Claim]) -> str:
@@ -202,22 +204,22 @@ class Statements:
                     return party.name
         return ""
 
-    def all(self, since: int, names: dict[str, str]) -> Iterator[Statement]:
+    def all(self, span: Span, names: dict[str, str]) -> Iterator[Statement]:
         """The statement of each account and then of each publisher, one after another; `names` has the names of accounts."""
         claims = Claims(self.copy)
         self.copy.database.execute("CREATE TEMP TABLE earned (sender TEXT, pool INTEGER, line INTEGER)")
-        yield from self.each_account(claims, since, names)
-        yield from self.each_publisher(claims, since, names)
+        yield from self.each_account(claims, span, names)
+        yield from self.each_publisher(claims, span, names)
 
-    def each_account(self, claims: Claims, since: int, names: dict[str, str]) -> Iterator[Statement]:
+    def each_account(self, claims: Claims, span: Span, names: dict[str, str]) -> Iterator[Statement]:
         """The statement of each account but that of what nobody was paid."""
         balances = dict(self.copy.rows("SELECT account, units FROM balances"))
-        question = "SELECT account, pool, line, isrc, units FROM credits WHERE pool >= ? ORDER BY account, pool, line"
-        for account, rows in itertools.groupby(self.copy.rows(question, since), key=operator.itemgetter(0)):
+        question = "SELECT account, pool, line, isrc, units FROM credits WHERE pool BETWEEN ? AND ? ORDER BY account, pool, line"
+        for account, rows in itertools.groupby(self.copy.rows(question, *span), key=operator.itemgetter(0)):
             lines = list(self.noted_lines(claims, account, rows))
             if account != UNCLAIMED:
                 name, balance = names.get(account, ""), balances.get(account, 0)
-                yield Statement(account, name, self.copy.name, since, lines, sums_of(lines), balance, self.names, names)
+                yield Statement(account, name, self.copy.name, span, lines, sums_of(lines), balance, self.names, names)
 
     def noted_lines(self, claims: Claims, account: str, rows: Iterable[tuple[str, int, int, str, int]]) -> Iterator[Credit]:
         """The lines of an account; whose work each comes from is noted in the table `earned`. What nobody was paid is noted only."""
@@ -237,16 +239,16 @@ class Statements:
         self.copy.database.executemany("INSERT INTO earned VALUES (?, ?, ?)", earned)
         earned.clear()
 
-    def each_publisher(self, claims: Claims, since: int, names: dict[str, str]) -> Iterator[Statement]:
+    def each_publisher(self, claims: Claims, span: Span, names: dict[str, str]) -> Iterator[Statement]:
         """The statement of each publisher that has works, by the table `earned`."""
         others = {it.sender for it in self.copy.lines() if it.works}
         question = "SELECT sender, pool, isrc, account, units FROM earned JOIN credits USING (pool, line) ORDER BY sender, pool, line"
         for sender, rows in itertools.groupby(self.copy.rows(question), key=operator.itemgetter(0)):
             lines = [self.credit(claims, pool, isrc, account, units) for _, pool, isrc, account, units in rows]
             others.discard(sender)
-            yield Statement(sender, self.names.get(sender, ""), self.copy.name, since, lines, sums_of(lines), None, self.names, names)
+            yield Statement(sender, self.names.get(sender, ""), self.copy.name, span, lines, sums_of(lines), None, self.names, names)
         for sender in sorted(others):
-            yield Statement(sender, self.names.get(sender, ""), self.copy.name, since, [], Sums(), None, self.names, names)
+            yield Statement(sender, self.names.get(sender, ""), self.copy.name, span, [], Sums(), None, self.names, names)
 
 
 def is_sender(copy: Copy, key: str) -> bool:

@@ -179,19 +179,55 @@ def test_since_a_pool(copy: pathlib.Path) -> None:
 
 @pytest.mark.usefixtures("every_statement_is_large")
 @pytest.mark.parametrize("key", ["I00000000295", quarter.ALPHA, "UNCLAIMED"])
-@pytest.mark.parametrize("since", [1, 2, 3, 4])
-def test_a_large_statement_since_a_pool(copy: pathlib.Path, key: str, since: int) -> None:
+@pytest.mark.parametrize("since, until", [(1, 9), (2, 9), (3, 9), (4, 9), (1, 1), (1, 2), (2, 3)])
+def test_a_large_statement_of_some_pools(copy: pathlib.Path, key: str, since: int, until: int) -> None:
+    check_span(copy, key, since, until)
+
+
+@pytest.mark.parametrize("key", ["I00000000295", quarter.ALPHA, "UNCLAIMED"])
+@pytest.mark.parametrize("since, until", [(1, 1), (1, 2), (2, 3), (3, 3)])
+def test_a_statement_of_some_pools(copy: pathlib.Path, key: str, since: int, until: int) -> None:
+    check_span(copy, key, since, until)
+
+
+def check_span(copy: pathlib.Path, key: str, since: int, until: int) -> None:
+    """Compares the statement of some pools with what was earned by them."""
     listed = earned_by(key) if key in quarter.NAMES else reckoning.lines_of(quarter.OFFICE, key)
-    wanted = sorted(it[0] for it in listed if it[0] >= since)
-    rows = list(csv.DictReader(io.StringIO(run("statement", copy, key, "--since", since, "--format", "csv"))))
+    wanted = sorted(it[0] for it in listed if since <= it[0] <= until)
+    words = ["--since", since, "--until", until, "--format", "csv"]
+    rows = list(csv.DictReader(io.StringIO(run("statement", copy, key, *words))))
     assert sorted(int(it["pool"]) for it in rows) == wanted
     with open_copy(copy) as opened:
-        found = Statements(opened).of(key, since)
+        found = Statements(opened).of(key, since, until)
     by_work = collections.Counter()
     for it in listed:
-        by_work[it[3:6]] += it[-1] if it[0] >= since else 0
+        by_work[it[3:6]] += it[-1] if since <= it[0] <= until else 0
     assert found.sums.count == len(wanted) and +collections.Counter({it.words: it.units for it in found.by_work}) == +by_work
     assert found.total == sum(by_work.values())
+
+
+@pytest.mark.parametrize(
+    "words, said",
+    [
+        (["--until", 2], "the pools up to 2"),
+        (["--since", 2, "--until", 3], "the pools 2 to 3"),
+        (["--since", 3, "--until", 3], "pool 3"),
+        (["--since", 3], "the pools from 3 on"),
+    ],
+)
+def test_a_statement_tells_its_pools(copy: pathlib.Path, tmp_path: pathlib.Path, words: list[object], said: str) -> None:
+    balance = reckoning.balances(quarter.OFFICE)["I00000000295"]
+    assert run("statement", copy, "I00000000295", *words).endswith(f" by {said}; the balance over all pools is {balance:,}\n")
+    assert f"<p>EXAMPLE SOCIETY, {said}; out of the copy" in run("statement", copy, "I00000000295", *words, "--format", "html")
+    run("statement", copy, "--all", "--into", tmp_path / "all", *words)
+    page = (tmp_path / "all/I00000000295/index.html").read_text()
+    assert f"EXAMPLE SOCIETY, {said}; out of" in page
+    with (tmp_path / "all/I00000000295/statement.csv").open() as file:
+        assert file.read() == run("statement", copy, "I00000000295", *words, "--format", "csv")
+
+
+def test_pools_that_fall(copy: pathlib.Path) -> None:
+    assert "--until 1 is below --since 2" in run("statement", copy, "I00000000295", "--since", 2, "--until", 1, status=2)
 
 
 def test_pools_that_credited_nothing_to_an_account(copy: pathlib.Path) -> None:
