@@ -1,5 +1,6 @@
 """Checks of files before they are sent: the program says what becomes of them, and our own reading where each fault is."""
 
+import codecs
 import dataclasses
 import pathlib
 import re
@@ -116,6 +117,8 @@ def read_files(names: Sequence[pathlib.Path]) -> list[Sent]:
 
 def begin_of(body: bytes) -> str:
     """How a file begins, in words."""
+    if body.startswith((codecs.BOM_UTF16_LE, codecs.BOM_UTF16_BE)):
+        return "UTF-16, of two bytes a letter"
     mark = "a byte order mark and " if body.startswith(BOM) else ""
     return f"{mark}{text(body.removeprefix(BOM).partition(NEW_LINE)[0][:14])!r}" if body else "nothing"
 

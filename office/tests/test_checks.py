@@ -254,6 +254,7 @@ def test_a_file_of_works_without_its_header(tmp_path: pathlib.Path, program: str
     for body, said in (
         (b"", "here is nothing"),
         (b"\xef\xbb\xbf" + FIRST, "a byte order mark and 'HDRPB000000012'"),
+        (FIRST.decode().encode("utf-16"), "here is UTF-16, of two bytes a letter"),
         (FIRST[3:], "here is 'PB000000012EXA'"),
         (b' {"amount":1,"cut":[],"returns":[]}', "it is JSON, so no file and no return"),
     ):
