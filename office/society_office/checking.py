@@ -161,7 +161,8 @@ def note_other(it: Sent, own: Sequence[Fault], answer: Answer, where: str) -> No
 def put(office: Asked, path: str, it: Sent) -> Answer | None:
     """The answer to a file; None where it is too large to be sent at all, which is noted."""
     if len(it.body) > MAX_BODY:
-        it.state, it.refusal = "refused", f"413: over {MAX_BODY:,} bytes; spread it over more numbers"
+        size = f"{len(it.body):,} bytes, of which line {it.body.count(NEW_LINE, 0, MAX_BODY) + 1:,} passes {MAX_BODY:,}"
+        it.state, it.refusal = "refused", f"413: {size}; spread it over more numbers"
         return None
     return office.ask("PUT", path, it.body)
 

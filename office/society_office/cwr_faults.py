@@ -10,7 +10,6 @@ from society_office.fields import (
     GROUP_END,
     GROUP_ID,
     GROUP_KIND,
-    MAX_BODY,
     MAX_LINE,
     RECORD_TYPE,
     SENDER,
@@ -91,16 +90,10 @@ class FileReader:
                 self.note(FileFault.TIME, 1, place.words, place.of(line), MOVED if is_moved(line, place) else "")
 
     def read_sizes(self) -> None:
-        """Lines that are too long, and a body that is."""
-        end = 0
+        """Lines that are too long."""
         for at, line in enumerate(self.body.split(b"\n"), 1):
-            end += len(line) + 1
             if len(line.removesuffix(b"\r")) > MAX_LINE:
                 self.note(FileFault.SIZE, at, "the whole line", str(len(line)).encode(), "bytes; are the line ends missing?")
-            elif end - 1 > MAX_BODY:
-                hint = f"bytes; at most {MAX_BODY:,}: spread the works"
-                self.note(FileFault.SIZE, at, "the size of the file", str(len(self.body)).encode(), hint)
-                return
 
     def read_groups(self) -> int:
         """Reads group after group; answers the number of the line behind TRL, 0 where there is no TRL."""

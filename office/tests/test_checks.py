@@ -278,6 +278,18 @@ def test_what_was_done_to_a_file_of_works(tmp_path: pathlib.Path, program: str, 
     assert said in run("check", tmp_path / "it.cwr", "--program", program, status=1, out=True)
 
 
+@pytest.mark.parametrize("size", [1_048_576, 1_048_577])
+def test_a_file_that_is_too_large(tmp_path: pathlib.Path, program: str, size: int) -> None:
+    rows = b"ATABC2600001,3,180\n"
+    (tmp_path / "it.csv").write_bytes((b"isrc,plays,seconds\n" + rows * 60_000)[:size])
+    said = run("check", tmp_path / "it.csv", "--program", program, status=1, out=True)
+    refused = "REFUSED, 413: 1,048,577 bytes, of which line 55,189 passes 1,048,576; spread it over more numbers"
+    assert (refused in said) == (size > 1_048_576)
+    (tmp_path / "it.cwr").write_bytes((FIRST + b" " * 1_000 + b"\n" + (b" " * 1_000 + b"\n") * 1_100)[:size])
+    said = run("check", tmp_path / "it.cwr", "--program", program, status=size > 1_048_576)
+    assert size == 1_048_576 or "fault 12" not in said
+
+
 def test_spreadsheets(tmp_path: pathlib.Path, program: str) -> None:
     (tmp_path / "it.csv").write_text("isrc,plays,seconds\nATABC2600001,3,3:00\nATABC2600001,1.000,5\n,,\n")
     said = run("check", tmp_path / "it.csv", "--program", program, status=1, out=True)
