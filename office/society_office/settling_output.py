@@ -1,6 +1,7 @@
 """What has one owner now, as it is printed, and the returns and orders that pay it, as they are written."""
 
 import pathlib
+from collections.abc import Iterator, Mapping
 
 from rich.console import Console
 
@@ -8,9 +9,9 @@ from society_office.copy import Copy
 from society_office.follow_ups import SETTLED
 from society_office.order_output import MOST_ROWS, tell_older
 from society_office.pages import write_text
-from society_office.return_names import Entry
-from society_office.settling import MAY_BE_OWNED, Round, later, left_out, next_number, refuse_open, rounds
-from society_office.stored_returns import stored_returns
+from society_office.return_names import Entry, Return, names_text
+from society_office.settling import MAY_BE_OWNED, Round, Settled, later, left_out, next_number, refuse_open, rounds, settled_returns
+from society_office.stored_returns import Stored, stored_returns
 from society_office.terminal import say, table
 from society_office.unclaimed import BOOKING, Item
 
@@ -35,12 +36,26 @@ def show_later(out: Console, copy: Copy, items: list[Item], void: list[Entry]) -
         if len(rows) > MOST_ROWS:
             out.print(f"the first {MOST_ROWS:,} of {len(rows):,} stand here: `--settle` writes every one of them")
         out.print(table(["ISRC", "units"], rows[:MOST_ROWS], ["units"]))
+    for line in settled_before(copy, stored, void):
+        out.print()
+        out.print(line)
     for pool, units in left_out(items, stored, void).items():
         out.print()
         out.print(f"{units:,} units of pool {pool} have one owner now; it was corrected: `correct` with a later cut credits what they lack")
     if any(it.cause in MAY_BE_OWNED for it in items):
         out.print()
         out.print(BOOKING)
+
+
+def settled_before(copy: Copy, stored: Mapping[Return, Stored], void: list[Entry]) -> Iterator[str]:
+    """What rounds have settled of what went to nobody, by the pool that paid it, and what waits for its pool."""
+    found: dict[int, list[Settled]] = {}
+    for it in settled_returns(copy, stored, void):
+        found.setdefault(it.pool, []).append(it)
+    for pool, listed in sorted(found.items()):
+        units, named = sum(it.units.total() for it in listed), names_text((SETTLED, it.number) for it in listed)
+        became = f"which pool {pool} has paid" if pool else "which waits for its pool"
+        yield f"{units:,} units of what went to nobody are settled by {named}, {became}"
 
 
 def refuse_second_round(copy: Copy, void: list[Entry]) -> None:

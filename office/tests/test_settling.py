@@ -72,7 +72,10 @@ def test_a_round_that_waits_is_neither_named_nor_repeated(copy: pathlib.Path, tm
     then = further(program, copy, [("/returns/SETTLED/1", body)], tmp_path / "then.db")
     said = run("unclaimed", then, "--settle", tmp_path / "second", status=1)
     assert "SETTLED/1 is stored and no pool has paid it" in said and not (tmp_path / "second").exists()
-    assert "have one owner now" not in run("unclaimed", then)
+    shown = run("unclaimed", then)
+    assert "have one owner now" not in shown
+    asked = json.loads((folder / "PR.json").read_text())["amount"]
+    assert f"{asked:,} units of what went to nobody are settled by SETTLED/1, which waits for its pool\n" in shown
     assert ["SETTLED", 1] not in json.loads(run("propose", then, "--amount", 5))["returns"]
     assert "a return of the office itself" in run("propose", then, "--amount", 5, "--returns", "SETTLED", status=1)
     assert "a return of the office itself" in run("correct", then, 1, "--returns", "SETTLED/1", "--program", program, status=1)
@@ -106,6 +109,9 @@ def test_both_rights_have_returns_of_their_own(copy: pathlib.Path, tmp_path: pat
         assert next_number(stored) == 3 and [it.right for it in later(opened, Unclaimed(opened).items(), stored, [])] == []
     played = further(program, closed, [("/returns/RADIO7/1", found["MR.csv"].encode())], tmp_path / "played.db")
     assert ["RADIO7", 1] in json.loads(run("propose", played, "--amount", 5, "--kind", "MR"))["returns"]
+    shown, asked = run("unclaimed", closed), json.loads(found["PR.json"])["amount"]
+    assert f"{asked:,} units of what went to nobody are settled by SETTLED/1, which pool 7 has paid\n" in shown
+    assert "50 units of what went to nobody are settled by SETTLED/2, which pool 8 has paid\n" in shown
     said = CliRunner(mix_stderr=False).invoke(main, ["unclaimed", str(closed), "--settle", str(tmp_path / "again")])
     assert said.stderr == "nothing is left that has one owner now: nothing was written\n" and not (tmp_path / "again").exists()
     said = CliRunner(mix_stderr=False).invoke(main, ["unclaimed", str(closed), "--settle", str(tmp_path / "round")])
