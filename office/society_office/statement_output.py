@@ -33,11 +33,12 @@ def heading(found: Statement) -> str:
 def verdict(found: Statement) -> str:
     """What the statement comes to, beside the balance."""
     part = "" if found.is_whole else f" by {found.span.words}"
+    unknown = "" if found.is_named or found.balance else ", and no work names it: look whether it is right"
     if not found.sums.count and found.is_whole:
         whose = "a work of this sender" if found.is_of_publisher else "this account"
-        return f"no credit: no pool has credited {whose}" + ("" if found.is_named else ", and no work names it: look whether it is right")
+        return f"no credit: no pool has credited {whose}{unknown}"
     if not found.sums.count:
-        return f"no credit{part}" + ("" if found.balance is None else f"; the balance over all pools is {found.balance:,}")
+        return f"no credit{part}" + ("" if found.balance is None else f"; the balance over all pools is {found.balance:,}{unknown}")
     if found.balance is None:
         return f"{found.total:,} units in all{part}, over all accounts"
     if not found.is_whole:

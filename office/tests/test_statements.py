@@ -335,6 +335,8 @@ def test_an_account_without_a_credit(copy: pathlib.Path, program: str, tmp_path:
     """Of one that works name the name is told, and of one that none names that it may be wrong."""
     unknown = f"{UNPLAYED}, and no work names it: look whether it is right"
     assert run("statement", copy, "I00000009999") == f"I00000009999\n{unknown}\n"
+    said = run("statement", copy, "I00000009999", "--since", 2)
+    assert said.endswith("the balance over all pools is 0, and no work names it: look whether it is right\n")
     assert "No pool has credited this account, and no work names it." in run("statement", copy, "I00000009999", "--format", "html")
     unplayed = made(program, Office(quarter.NAMES, [File(*quarter.FILES[0])]), tmp_path)
     assert run("statement", unplayed, "I00000000295") == f"I00000000295 ANNA WRITER\n{UNPLAYED}\n"
