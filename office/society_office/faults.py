@@ -12,7 +12,8 @@ if TYPE_CHECKING:
     from society_office.program import Answer
 
 NOT_TAKEN = {
-    401: "the proxy wants a user and a password",
+    400: "it was not understood there: where that is the port of https, write https:// before the address",
+    401: "the proxy wants a user and a password, or these are wrong",
     403: "the proxy does not let this user do that",
     404: "a number, the sender or the reporter is not one that the office takes",
     413: f"it is longer than {MAX_BODY:,} bytes: spread it over more numbers",

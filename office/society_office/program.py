@@ -118,6 +118,8 @@ def parts_of(address: str) -> urllib.parse.SplitResult:
     with contextlib.suppress(ValueError):
         parts = urllib.parse.urlsplit(address)
         is_office = parts.scheme in ("http", "https") and not parts.query and not parts.fragment and port_of(parts) is not None
+        # (what a publisher writes before each request is no office)
+        is_office = is_office and "/v1/" not in f"{parts.path}/"
         if is_office and parts.hostname and not UNPRINTED.search(parts.hostname):
             return parts
     raise OfficeError(f"{address} is no address of an office: write http://127.0.0.1:8080 or https://office.example:8443")

@@ -207,6 +207,13 @@ def test_another_program_that_tells_a_front(tmp_path: pathlib.Path, monkeypatch:
                 run("check", tmp_path / name, "--office", address, status=0 if is_taken else 1, out=True)
 
 
+@pytest.mark.parametrize("status, said", [(400, "where that is the port of https, write https://"), (401, "or these are wrong")])
+def test_a_proxy_that_takes_nothing(tmp_path: pathlib.Path, monkeypatch: pytest.MonkeyPatch, status: int, said: str) -> None:
+    (tmp_path / "it.csv").write_text("isrc,plays,seconds\n")
+    with other(monkeypatch, b"<html>", status) as address:
+        assert said in run("check", tmp_path / "it.csv", "--office", address, status=1, out=True)
+
+
 @pytest.mark.parametrize("address", ["http://[::1", "http://\u2100.example"])
 def test_what_is_no_address_by_any_command(copy: pathlib.Path, tmp_path: pathlib.Path, address: str) -> None:
     (tmp_path / "it.cwr").write_bytes(FIRST)

@@ -289,7 +289,11 @@ def test_a_folder_in_the_place_of_the_offices_file(copy: pathlib.Path, monkeypat
     assert "file" in run("health", "--office", f"http://127.0.0.1:{free_port()}", "--db", ".", status=2, out=True)
 
 
-@pytest.mark.parametrize("address", ["ftp://x", "http://", "http://x:99999", "http://x:y", "http://x/?a", "http://x y:80"])
+NO_ADDRESSES = ["ftp://x", "http://", "http://x:99999", "http://x:y", "http://x/?a", "http://x y:80"]
+NO_ADDRESSES += ["http://x/v1", "http://x/v1/senders/PB000000012"]
+
+
+@pytest.mark.parametrize("address", NO_ADDRESSES)
 def test_what_is_no_address(address: str) -> None:
     with pytest.raises(OfficeError, match="is no address of an office"):
         Office(address)
