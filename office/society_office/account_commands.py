@@ -6,14 +6,13 @@ import sys
 import click
 
 from society_office import balances, explain_output
-from society_office.command_words import COPY_HELP, PATH, POOL, POOLS_HELP, Command, noted
+from society_office.command_words import COPY_HELP, PATH, POOL, Command, names_known, noted, with_decisions
 from society_office.errors import OfficeError
 from society_office.explaining import Explainer
 from society_office.fields import RECORDING
 from society_office.lines import NO_RECORDING
 from society_office.numbering import as_sent, rank_of
 from society_office.pages import write_bytes, write_text
-from society_office.pool_names import pool_names
 from society_office.program import open_whole
 from society_office.return_names import one_return
 from society_office.soundness import need_sound
@@ -45,7 +44,7 @@ def write_stored(body: bytes, output: pathlib.Path | None) -> None:
 @click.option("--isrc", metavar="ISRC", help="Only this recording.")
 @click.option("--format", "form", type=click.Choice(["table", "csv", "json"]), default="table", help="How it is written.")
 @click.option("--output", type=PATH, help="The file to write; without it, standard output.")
-@click.option("--pools", type=PATH, metavar="FILE", help=POOLS_HELP)
+@with_decisions
 def explain(
     copy: pathlib.Path,
     account: str,
@@ -53,7 +52,7 @@ def explain(
     isrc: str | None,
     form: str,
     output: pathlib.Path | None,
-    pools: pathlib.Path | None,
+    folder: pathlib.Path | None,
 ) -> None:
     """How each credit of an account in a pool came about.
 
@@ -63,9 +62,9 @@ def explain(
     wanted = isrc.upper().replace("-", "") if isrc and isrc != NO_RECORDING else isrc
     if wanted not in (None, NO_RECORDING) and not RECORDING.fullmatch(str(wanted).encode(errors="replace")):
         raise OfficeError(f"{isrc!r} is no ISRC: write ATABC2600001")
-    names = pool_names(copy, pools)
     with open_whole(copy) as opened:
-        found = Explainer(noted(opened), pool).of(account, wanted)
+        names = names_known(noted(opened), folder)
+        found = Explainer(opened, pool).of(account, wanted)
     if form == "table" and output is None:
         explain_output.show(found, names, console())
         return
@@ -76,16 +75,15 @@ def explain(
 @click.argument("copy", type=PATH)
 @click.option("--format", "form", type=click.Choice(["csv", "json", "ledger"]), default="csv", help="How it is written.")
 @click.option("--output", type=PATH, help="The file to write; without it, standard output.")
-@click.option("--pools", type=PATH, metavar="FILE", help=POOLS_HELP)
-def list_balances(copy: pathlib.Path, form: str, output: pathlib.Path | None, pools: pathlib.Path | None) -> None:
+@with_decisions
+def list_balances(copy: pathlib.Path, form: str, output: pathlib.Path | None, folder: pathlib.Path | None) -> None:
     """What each account was credited, by pool and right, so that its lines add up to its balance.
 
     As ledger it is a journal for ledger and hledger, with a transaction for each pool.
     """
-    names = pool_names(copy, pools)
     with open_whole(copy) as opened:
         need_sound(noted(opened), sums=True)
-        text = balances.FORMS[form](balances.read(opened), names, opened)
+        text = balances.FORMS[form](balances.read(opened), names_known(opened, folder), opened)
     write_out(text, output)
 
 

@@ -12,15 +12,14 @@ from typing import Any
 
 import click
 
-from society_office import __version__, account_commands, checking, health, money_commands, parties, signals, standby_commands
-from society_office import statement_output, why
-from society_office.command_words import COPY_HELP, NUMBER, PATH, POOL, POOLS_HELP, PROGRAM_HELP, VOID_HELP, WRONG, Command, fail
-from society_office.command_words import noted, void_list
+from society_office import __version__, account_commands, checking, decision_commands, health, money_commands, parties, signals
+from society_office import standby_commands, statement_output, why
+from society_office.command_words import COPY_HELP, NUMBER, PATH, POOL, PROGRAM_HELP, WRONG, Command, fail, looked_up, names_known
+from society_office.command_words import noted, with_decisions
 from society_office.copy import beside
 from society_office.errors import OfficeError
 from society_office.orders import LAST_POOL
 from society_office.pages import write_text
-from society_office.pool_names import pool_names
 from society_office.site import write_site
 from society_office.program import Office, ReplayOffice, find_program, open_whole, trial_of
 from society_office.soundness import need_sound
@@ -87,7 +86,7 @@ def main() -> None:
     help="With --all: writes FOLDER/KEY/index.html and statement.csv for each KEY.",
 )
 @click.option("--pdf", is_flag=True, help="With --all: writes FOLDER/KEY/statement.pdf too.")
-@click.option("--pools", type=PATH, metavar="FILE", help=POOLS_HELP)
+@with_decisions
 def statement(
     copy: pathlib.Path,
     key: str | None,
@@ -98,7 +97,7 @@ def statement(
     everybody: bool,
     into: pathlib.Path | None,
     pdf: bool,
-    pools: pathlib.Path | None,
+    folder: pathlib.Path | None,
 ) -> None:
     """What an account was credited, and for which works.
 
@@ -118,12 +117,13 @@ def statement(
         raise click.UsageError("a PDF needs --output FILE")
     if until < since:
         raise click.UsageError(f"--until {until} is below --since {since}")
-    names, span = pool_names(copy, pools), Span(since, until)
+    span = Span(since, until)
     with open_whole(copy) as opened:
+        names = names_known(noted(opened), folder)
         if into is not None:
-            need_sound(noted(opened), sums=True)
+            need_sound(opened, sums=True)
             sys.exit(statement_output.write_each(opened, names, span, into, pdf))
-        statements = Statements(noted(opened))
+        statements = Statements(opened)
         if form == "csv":
             found = statement_output.write_csv(statements, key or "", names, span, output)
             if not found.sums.count:
@@ -303,18 +303,18 @@ def tell_health(**given: Any) -> None:
 @main.command(epilog=COPY_HELP, short_help="Pages of the whole office.")
 @click.argument("copy", type=PATH)
 @click.option("--into", type=PATH, required=True, metavar="FOLDER", help="The folder of the pages; it is made where it is not there.")
-@click.option("--void", type=PATH, metavar="FILE", help=VOID_HELP)
-@click.option("--pools", type=PATH, metavar="FILE", help=POOLS_HELP)
-def site(copy: pathlib.Path, into: pathlib.Path, void: pathlib.Path | None, pools: pathlib.Path | None) -> None:
+@with_decisions
+def site(copy: pathlib.Path, into: pathlib.Path, folder: pathlib.Path | None) -> None:
     """Pages of the whole office: senders with their gaps, rejected works, pools, stations, returns and balances.
 
     They are static, need no script, and can be read on a phone and printed. Make them every night from the backup.
     """
     with open_whole(copy) as opened, doing("reading") as tell:
         need_sound(noted(opened), sums=True)
-        count = write_site(opened, into, void_list(copy, void), pool_names(copy, pools), tell)
+        known = looked_up(opened, folder)
+        count = write_site(opened, into, known.void if known else [], known.pools if known else {}, tell)
     say(f"{count:,} files in {into}; begin with {into / 'index.html'}")
 
 
-for command in (*account_commands.COMMANDS, *money_commands.COMMANDS, *standby_commands.COMMANDS):
+for command in (*account_commands.COMMANDS, *decision_commands.COMMANDS, *money_commands.COMMANDS, *standby_commands.COMMANDS):
     main.add_command(command)

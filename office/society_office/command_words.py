@@ -3,13 +3,17 @@
 import math
 import pathlib
 import sys
+import time
 from typing import Any, NoReturn
 
 import click
 
+from society_office import decisions
 from society_office.copy import Copy
+from society_office.decisions import Decisions
+from society_office.numbering import counted
 from society_office.orders import LAST_POOL
-from society_office.return_names import Entry, listed
+from society_office.pool_names import PoolNames
 from society_office.terminal import say
 
 
@@ -35,13 +39,21 @@ class Command(click.Command):
 
 
 WRONG = 1
+# Seconds of an hour, hours of a day, and how many hours are told as such.
+HOUR, DAY, MANY_HOURS = 3_600, 24, 48
 NUMBER = Number(0, 1_000_000)
 PATH = click.Path(path_type=pathlib.Path)
 POOL = click.IntRange(1, LAST_POOL)
 COPY_HELP = "COPY is a copy of the office's file, as the nightly backup makes it: one file, which no office has open."
-VOID_HELP = "A list of returns never to be named (default: void.txt beside COPY)."
-POOLS_HELP = "A list of names and periods of pools (default: pools.txt beside COPY)."
+DECISIONS_HELP = f"The folder of decisions (default: ${decisions.VARIABLE}, else {decisions.FOLDER})."
+OLD = {"--void": decisions.VOID, "--pools": decisions.POOLS}
 PROGRAM_HELP = "The program (default: `society` on the PATH)."
+
+
+DECISIONS = (
+    click.option("--decisions", "folder", type=PATH, metavar="FOLDER", help=DECISIONS_HELP),
+    *(click.option(it, hidden=True, expose_value=False, callback=lambda *it: refuse_old(*it)) for it in OLD),
+)
 
 
 def fail(line: str) -> NoReturn:
@@ -57,7 +69,56 @@ def noted(copy: Copy) -> Copy:
     return copy
 
 
-def void_list(copy: pathlib.Path, named: pathlib.Path | None) -> list[Entry]:
-    """The returns never to be named: those of the list that is named, else of void.txt beside the copy."""
-    beside = copy.parent / "void.txt"
-    return listed(named or beside) if named or beside.exists() else []
+def with_decisions(command: Any) -> Any:
+    """A command with the option --decisions, which says what took the place of lists of its own."""
+    for option in reversed(DECISIONS):
+        command = option(command)
+    return command
+
+
+def refuse_old(_: click.Context, option: click.Parameter, value: object) -> None:
+    """A UsageError where a list is named that stands in the folder of decisions now."""
+    if value is not None:
+        raise click.UsageError(f"{option.opts[-1]} is no more: the list stands in the folder of decisions, as {OLD[option.opts[-1]]} there")
+
+
+def decided(copy: Copy, named: pathlib.Path | None) -> Decisions:
+    """What the office has decided, for a command that decides or judges money: it is said which folder has it, and how old the copy is.
+
+    An OfficeError where there is no such folder.
+    """
+    found = decisions.read(decisions.need_folder(named))
+    say(f"{found.words}; {age_told(copy)}", error=True)
+    tell_unread(copy, found.folder)
+    return found
+
+
+def tell_unread(copy: Copy, folder: pathlib.Path | None) -> None:
+    """Says where a list stands beside a copy, as it was read there before there was a folder of decisions."""
+    for name in OLD.values():
+        if (beside := copy.path.parent / name).exists() and not (folder and beside.parent.samefile(folder)):
+            say(f"note: {beside} is not read: what counts is {name} of the folder of decisions", error=True)
+
+
+def looked_up(copy: Copy, named: pathlib.Path | None) -> Decisions | None:
+    """The same for a command that only looks; without a folder that is said, and it goes on."""
+    if decisions.folder_of(named) is None:
+        say(f"no folder of decisions (--decisions), so nothing is known of void returns and names of pools; {age_told(copy)}", error=True)
+        tell_unread(copy, None)
+        return None
+    return decided(copy, named)
+
+
+def names_known(copy: Copy, named: pathlib.Path | None) -> PoolNames:
+    """The names and days of pools, for a command that tells nothing of what was decided beside them."""
+    folder = decisions.folder_of(named)
+    tell_unread(copy, folder)
+    return decisions.read(folder).pools if folder else {}
+
+
+def age_told(copy: Copy) -> str:
+    """How old a copy is, in words."""
+    hours = int((time.time() - copy.taken) // HOUR)
+    if hours < 1:
+        return f"{copy.path} is less than an hour old"
+    return f"{copy.path} is {counted(hours, 'hour') if hours < MANY_HOURS else counted(hours // DAY, 'day')} old"

@@ -6,12 +6,12 @@ import sys
 import click
 
 from society_office import correct_output, correcting, order_output, orders, parties, rehearsal, rehearsal_output, settling_output
-from society_office.command_words import COPY_HELP, PATH, POOL, PROGRAM_HELP, VOID_HELP, WRONG, Command, fail, noted, void_list
+from society_office.command_words import COPY_HELP, PATH, POOL, PROGRAM_HELP, WRONG, Command, decided, fail, looked_up, noted
+from society_office.command_words import with_decisions
 from society_office.copy import Copy
 from society_office.errors import OfficeError
 from society_office.numbering import ranges
 from society_office.pages import write_text
-from society_office.pool_names import pool_names
 from society_office.program import find_program, open_whole
 from society_office.return_names import entries
 from society_office.terminal import console, say
@@ -23,8 +23,8 @@ from society_office.unclaimed import Unclaimed, as_json
 @click.option("--pool", type=POOL, metavar="POOL", help="Only this pool.")
 @click.option("--format", "form", type=click.Choice(["table", "json"]), default="table", help="How it is written.")
 @click.option("--settle", type=PATH, metavar="FOLDER", help="Writes returns and orders that pay what has one owner now.")
-@click.option("--void", type=PATH, metavar="FILE", help=VOID_HELP)
-def unclaimed(copy: pathlib.Path, pool: int | None, form: str, settle: pathlib.Path | None, void: pathlib.Path | None) -> None:
+@with_decisions
+def unclaimed(copy: pathlib.Path, pool: int | None, form: str, settle: pathlib.Path | None, folder: pathlib.Path | None) -> None:
     """Why money went to nobody, by cause, and what can be done about it.
 
     Works and titles are those at the pool's cut. Without --pool, what was a conflict, or not in the cut, and has one owner now is listed
@@ -33,10 +33,10 @@ def unclaimed(copy: pathlib.Path, pool: int | None, form: str, settle: pathlib.P
     if settle and (pool is not None or form == "json"):
         raise click.UsageError("--settle is over all pools, and prints a table")
     with open_whole(copy) as opened:
-        noted(opened)
         if pool is not None:
             refuse_unknown(opened, pool)
-        barred = void_list(copy, void)
+        known = decided(noted(opened), folder) if settle else looked_up(noted(opened), folder)
+        barred = known.void if known else []
         if settle:
             settling_output.refuse_second_round(opened, barred)
         found = Unclaimed(opened).items(pool)
@@ -70,7 +70,7 @@ def refuse_unknown(copy: Copy, pool: int) -> None:
 @click.option("--cut", multiple=True, metavar="SENDER=N", help="Count a sender's files up to this one only (0: none). Can be given again.")
 @click.option("--no-returns", is_flag=True, help="Name no return, so that all of it goes to UNCLAIMED.")
 @click.option("--no-files", is_flag=True, help="Count no file, so that all of it goes to UNCLAIMED.")
-@click.option("--void", type=PATH, metavar="FILE", help=VOID_HELP)
+@with_decisions
 @click.option("--output", type=PATH, help="The file to write; without it, standard output.")
 def propose(
     copy: pathlib.Path,
@@ -80,7 +80,7 @@ def propose(
     cut: tuple[str, ...],
     no_returns: bool,
     no_files: bool,
-    void: pathlib.Path | None,
+    folder: pathlib.Path | None,
     output: pathlib.Path | None,
 ) -> None:
     """An order over all files that are applied and all returns that no pool has paid.
@@ -95,7 +95,7 @@ def propose(
         raise click.UsageError("give --cut or --no-files, not both")
     wanted = orders.Wanted(entries(returns, "--returns"), cut, no_returns, no_files)
     with open_whole(copy) as opened:
-        found = orders.propose(noted(opened), amount, kind, wanted, void_list(copy, void))
+        found = orders.propose(noted(opened), amount, kind, wanted, decided(opened, folder).void)
     order_output.tell_proposal(found)
     orders.refuse_empty(found.order, wanted)
     if output:
@@ -108,28 +108,31 @@ def propose(
 @click.argument("copy", type=PATH)
 @click.argument("order", type=PATH)
 @click.option("--pool", type=POOL, metavar="POOL", help="The pool's number (default: the next free one).")
-@click.option("--void", type=PATH, metavar="FILE", help=VOID_HELP)
+@with_decisions
 @click.option("--format", "form", type=click.Choice(["table", "csv", "json"]), default="table", help="How it is written.")
 @click.option("--program", metavar="FILE", help=PROGRAM_HELP)
-def rehearse(copy: pathlib.Path, order: pathlib.Path, pool: int | None, void: pathlib.Path | None, form: str, program: str | None) -> None:
+def rehearse(
+    copy: pathlib.Path, order: pathlib.Path, pool: int | None, folder: pathlib.Path | None, form: str, program: str | None
+) -> None:
     """What an order would credit and what would stay unclaimed, before it is sent.
 
     The program itself serves a throw-away copy and closes the pool there. What is odd is noted: plays that are named or were paid before,
     void returns, a return with ten times the points of its station's others or a tenth, files and returns that are left out. A CSV has what
     each account is credited. The status is 1 where the program refuses the order.
     """
-    barred, pools = void_list(copy, void), pool_names(copy)
-    with open_whole(copy) as opened, rehearsal.rehearse(find_program(program), noted(opened), order, pool, barred) as found:
-        if form == "json":
-            say(rehearsal_output.as_json(found))
-        elif form == "csv" and found.copy is not None:
-            sys.stdout.write(rehearsal_output.as_csv(found, found.copy))
-        elif form == "csv":
-            fail(f"the order is refused, status {found.answer.status}: {found.refusal}")
-        else:
-            rehearsal_output.show(console(), found, pools)
-        if found.copy is None:
-            sys.exit(WRONG)
+    with open_whole(copy) as opened:
+        known = decided(noted(opened), folder)
+        with rehearsal.rehearse(find_program(program), opened, order, pool, known.void) as found:
+            if form == "json":
+                say(rehearsal_output.as_json(found))
+            elif form == "csv" and found.copy is not None:
+                sys.stdout.write(rehearsal_output.as_csv(found, found.copy))
+            elif form == "csv":
+                fail(f"the order is refused, status {found.answer.status}: {found.refusal}")
+            else:
+                rehearsal_output.show(console(), found, known.pools)
+            if found.copy is None:
+                sys.exit(WRONG)
 
 
 @click.command(cls=Command, epilog=COPY_HELP, short_help="What a mistaken order paid wrong, and how to put it right.")
@@ -139,7 +142,7 @@ def rehearse(copy: pathlib.Path, order: pathlib.Path, pool: int | None, void: pa
 @click.option("--kind", type=click.Choice(["PR", "MR"]), help="The right that it should have paid.")
 @click.option("--cut", multiple=True, metavar="SENDER=N", help="How far a sender's files should have counted (0: not at all), or `now`.")
 @click.option("--returns", multiple=True, metavar="WORDS", help="All that it should have paid, as for propose. Can be given again.")
-@click.option("--void", type=PATH, metavar="FILE", help=VOID_HELP)
+@with_decisions
 @click.option("--format", "form", type=click.Choice(["table", "csv", "json"]), default="table", help="How it is written.")
 @click.option(
     "--all-missing", is_flag=True, help="Credit what is missing also where others get too much by it, but less than those that lack it."
@@ -153,7 +156,7 @@ def correct(
     kind: str | None,
     cut: tuple[str, ...],
     returns: tuple[str, ...],
-    void: pathlib.Path | None,
+    folder: pathlib.Path | None,
     form: str,
     into: pathlib.Path | None,
     program: str | None,
@@ -168,8 +171,8 @@ def correct(
     changes = correcting.Changes(amount, kind, cut, entries(returns, "--returns"), all_missing)
     with open_whole(copy) as opened:
         refuse_unknown(noted(opened), pool)
-        names, pools = parties.names_of(parties.parties(opened)), pool_names(copy)
-        found = correcting.correct(find_program(program), opened, pool, changes, void_list(copy, void))
+        names, known = parties.names_of(parties.parties(opened)), decided(opened, folder)
+        found = correcting.correct(find_program(program), opened, pool, changes, known.void)
     if into:
         correct_output.write(into, found, names)
     if form == "csv":
@@ -177,7 +180,7 @@ def correct(
     elif form == "json":
         say(correct_output.as_json(found, names))
     else:
-        correct_output.show(console(), found, names, pools)
+        correct_output.show(console(), found, names, known.pools)
 
 
 COMMANDS = (unclaimed, propose, rehearse, correct)

@@ -1,4 +1,4 @@
-"""Names and periods of pools, out of pools.txt beside a copy: `3 2026-01-01/2026-03-31 First quarter` in a line."""
+"""Names and periods of pools, out of pools.txt of the folder of decisions: `3 2026-01-01/2026-03-31 First quarter` in a line."""
 
 import dataclasses
 import datetime
@@ -8,7 +8,6 @@ import re
 from society_office.errors import OfficeError
 from society_office.word_lists import entries_of
 
-FILE = "pools.txt"
 ENTRY = re.compile(r"([1-9][0-9]{0,4}) +([0-9]{4}-[0-9]{2}-[0-9]{2})/([0-9]{4}-[0-9]{2}-[0-9]{2}) +(.+)", re.ASCII)
 FORM = "write a pool, its first and last day, and its name: 3 2026-01-01/2026-03-31 First quarter"
 
@@ -38,11 +37,10 @@ PoolNames = dict[int, PoolName]
 POOL_COLUMNS = ["pool_name", "first_day", "last_day"]
 
 
-def pool_names(copy: pathlib.Path, named: pathlib.Path | None = None) -> PoolNames:
-    """The names of a list, else of pools.txt beside the copy; an OfficeError with the line of what is none, or is there twice."""
-    beside = copy.parent / FILE
+def names_in(file: pathlib.Path) -> PoolNames:
+    """The names of a list; an OfficeError with the line of what is none, or is there twice."""
     found: PoolNames = {}
-    for where, words in entries_of(named or beside) if named or beside.exists() else ():
+    for where, words in entries_of(file):
         entry = ENTRY.fullmatch(words)
         if not entry or not entry[4].isprintable():
             raise OfficeError(f"{where}: {words!r} names no pool: {FORM}")

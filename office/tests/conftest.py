@@ -18,7 +18,7 @@ sys.path[:0] = [str(HERE), str(HERE.parent)]
 
 import quarter  # noqa: E402 (the folder of the tests comes first)
 from office_value import Office  # noqa: E402
-from society_office import book_files, book_log  # noqa: E402
+from society_office import book_files, book_log, decisions  # noqa: E402
 
 OFFICE = ["--society", "900", "--territory", "40", "--name", "EXAMPLE SOCIETY"]
 TAKEN = {200, 201, 202}
@@ -109,6 +109,15 @@ def filled(program: str, tmp_path_factory: pytest.TempPathFactory) -> pathlib.Pa
 def copy(filled: pathlib.Path, tmp_path: pathlib.Path) -> pathlib.Path:
     """A copy of the quarter's office of a test's own."""
     return pathlib.Path(shutil.copy(filled, tmp_path / "copy.db"))
+
+
+@pytest.fixture(autouse=True)
+def decided(tmp_path_factory: pytest.TempPathFactory, monkeypatch: pytest.MonkeyPatch) -> pathlib.Path:
+    """The folder of decisions of a test, in which nothing is decided yet."""
+    found = tmp_path_factory.mktemp("decided")
+    decisions.begin(found)
+    monkeypatch.setenv(decisions.VARIABLE, str(found))
+    return found
 
 
 @pytest.fixture

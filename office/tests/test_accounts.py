@@ -19,7 +19,7 @@ from conftest import further
 from office_value import Pool, Return, return_body
 from society_office.errors import OfficeError
 from society_office.page_sums import changed
-from society_office.pool_names import pool_names
+from society_office.pool_names import names_in
 from society_office.splitting import split
 from society_office.statements import folder_of
 from test_statements import run
@@ -45,8 +45,8 @@ def test_a_credit_is_explained(copy: pathlib.Path, pool: int, account: str) -> N
     check_explained(copy, OFFICE, pool, account)
 
 
-def test_an_explanation_in_words(copy: pathlib.Path, tmp_path: pathlib.Path) -> None:
-    copy.with_name("pools.txt").write_text(POOL_NAMES)
+def test_an_explanation_in_words(copy: pathlib.Path, tmp_path: pathlib.Path, decided: pathlib.Path) -> None:
+    (decided / "pools.txt").write_text(POOL_NAMES)
     said = run("explain", copy, "I00000000295", "--pool", 1, "--isrc", "at-abc-26-00001")
     assert "pool 1 (First quarter, 2026-01-01 to 2026-03-31) of the PR: 1,000,003 units over 8,642 points" in said
     assert f"work A1 of {quarter.ALPHA} ALPHA MUSIC, file 2" in said and re.search(r"RADIO1 +1 +10 +200 +2,000", said)
@@ -67,9 +67,9 @@ def test_the_last_unit_goes_to_the_first_recording(copy: pathlib.Path, tmp_path:
     assert "501 units in all, which is what the statement has" in run("explain", then, "I00000000199", "--pool", 6)
 
 
-def test_the_name_of_an_explained_pool_is_no_formula(copy: pathlib.Path) -> None:
+def test_the_name_of_an_explained_pool_is_no_formula(copy: pathlib.Path, decided: pathlib.Path) -> None:
     for name, cell in (("First quarter", "First quarter"), ("=1+1", "'=1+1")):
-        copy.with_name("pools.txt").write_text(f"1 2026-01-01/2026-03-31 {name}\n")
+        (decided / "pools.txt").write_text(f"1 2026-01-01/2026-03-31 {name}\n")
         rows = list(csv.DictReader(io.StringIO(run("explain", copy, "I00000000295", "--pool", 1, "--format", "csv"))))
         assert {(it["pool_name"], it["first_day"], it["last_day"]) for it in rows} == {(cell, "2026-01-01", "2026-03-31")}
 
@@ -116,18 +116,17 @@ def test_credits_that_are_not_what_the_order_says(copy: pathlib.Path) -> None:
 def test_lists_of_pools_are_strict(tmp_path: pathlib.Path, line: str, said: str) -> None:
     (tmp_path / "pools.txt").write_text(f"# names\n{line}\n")
     with pytest.raises(OfficeError) as raised:
-        pool_names(tmp_path / "copy.db")
+        names_in(tmp_path / "pools.txt")
     assert said in str(raised.value) and str(raised.value).startswith(f"{tmp_path}/pools.txt, line ")
 
 
-def test_names_of_pools_stand_on_statements_and_pages(copy: pathlib.Path, tmp_path: pathlib.Path) -> None:
+def test_names_of_pools_stand_on_statements_and_pages(copy: pathlib.Path, tmp_path: pathlib.Path, decided: pathlib.Path) -> None:
     assert "period" not in run("statement", copy, "I00000000295")
-    (tmp_path / "names").write_text(POOL_NAMES)
-    said = run("statement", copy, "I00000000295", "--pools", tmp_path / "names")
+    (decided / "pools.txt").write_text(POOL_NAMES)
+    said = run("statement", copy, "I00000000295")
     assert re.search(r"3 +PR +Second quarter, radio +2026-04-01 to 2026-06-30 +[\d,]+\n", said)
-    page = run("statement", copy, "I00000000295", "--pools", tmp_path / "names", "--format", "html")
+    page = run("statement", copy, "I00000000295", "--format", "html")
     assert "<td>First quarter</td><td>2026-01-01 to 2026-03-31</td>" in page and "<td></td><td></td>" in page
-    copy.with_name("pools.txt").write_text(POOL_NAMES)
     run("site", copy, "--into", tmp_path / "site")
     assert "Second quarter, radio, 2026-04-01 to 2026-06-30" in (tmp_path / "site/pools/3.html").read_text()
     for name in ("pools.html", "index.html"):
@@ -145,8 +144,8 @@ def postings(journal: str) -> Iterator[tuple[str, int]]:
         yield from ((it[0], int(it[1])) for it in lines)
 
 
-def test_balances_by_pool_and_right(copy: pathlib.Path) -> None:
-    copy.with_name("pools.txt").write_text(POOL_NAMES)
+def test_balances_by_pool_and_right(copy: pathlib.Path, decided: pathlib.Path) -> None:
+    (decided / "pools.txt").write_text(POOL_NAMES)
     rows = list(csv.DictReader(io.StringIO(run("balances", copy))))
     check_balances(copy, OFFICE)
     names = {(it["pool"], it["pool_name"], it["first_day"], it["last_day"]) for it in rows}
@@ -156,10 +155,10 @@ def test_balances_by_pool_and_right(copy: pathlib.Path) -> None:
     assert [{key: str(value) for key, value in it.items()} for it in found] == rows
 
 
-def test_the_journal_has_the_balances(copy: pathlib.Path, tmp_path: pathlib.Path) -> None:
+def test_the_journal_has_the_balances(copy: pathlib.Path, tmp_path: pathlib.Path, decided: pathlib.Path) -> None:
     with changed(copy) as database:
         database.execute("UPDATE office SET name = 'OFFICE [=2026] date:x'")
-    copy.with_name("pools.txt").write_text(POOL_NAMES)
+    (decided / "pools.txt").write_text(POOL_NAMES)
     run("balances", copy, "--format", "ledger", "--output", tmp_path / "it.ledger")
     journal = (tmp_path / "it.ledger").read_text()
     assert "2026-03-31 (1) pool 1" in journal and "; BORIS COMPOSER" in journal

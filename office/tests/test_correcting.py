@@ -97,16 +97,16 @@ def test_it_is_rehearsed_and_sent(copy: pathlib.Path, tmp_path: pathlib.Path, pr
     assert sum(int(it["too_much"]) for it in rows) == 1_000_000 and list(rows[0])[:3] == ["account", "name", "due"]
 
 
-def test_a_void_correction_corrects_nothing(copy: pathlib.Path, program: str, tmp_path: pathlib.Path) -> None:
+def test_a_void_correction_corrects_nothing(copy: pathlib.Path, program: str, tmp_path: pathlib.Path, decided: pathlib.Path) -> None:
     then = further(program, copy, [("/returns/CORRECTED1/1", b"isrc,plays,seconds\n")], tmp_path / "then.db")
-    then.with_name("void.txt").write_text("RADIO1/1\n")
+    (decided / "void.txt").write_text("RADIO1/1\n")
     assert "has paid what is void" not in run_errors(then)
-    then.with_name("void.txt").write_text("RADIO1/1\nCORRECTED1/1\n")
+    (decided / "void.txt").write_text("RADIO1/1\nCORRECTED1/1\n")
     assert "pool 1 has paid what is void: RADIO1/1" in run_errors(then)
 
 
-def test_returns_as_they_should_have_been(copy: pathlib.Path, program: str, tmp_path: pathlib.Path) -> None:
-    copy.with_name("void.txt").write_text("RADIO1/1 # of another month\n")
+def test_returns_as_they_should_have_been(copy: pathlib.Path, program: str, tmp_path: pathlib.Path, decided: pathlib.Path) -> None:
+    (decided / "void.txt").write_text("RADIO1/1 # of another month\n")
     said = run("correct", copy, 1, "--program", program)
     assert "- does not pay RADIO1/1, which pool 1 has paid in the book" in said
     assert "`society-office correct` tells how to put it right" in run_errors(copy)
@@ -116,7 +116,7 @@ def test_returns_as_they_should_have_been(copy: pathlib.Path, program: str, tmp_
     then, _, _ = corrected(copy, quarter.OFFICE, right, program)
     assert ["TV1", 1] not in json.loads(run("propose", then, "--amount", 1))["returns"]
     assert "has paid what is void" not in run_errors(then)
-    copy.with_name("void.txt").write_text("RADIO1\nRADIO2\n")
+    (decided / "void.txt").write_text("RADIO1\nRADIO2\n")
     assert "names no return" in run("correct", copy, 1, "--program", program, status=1)
     assert "too much" in run("correct", copy, 1, "--amount", 0, "--program", program)
 
@@ -131,7 +131,7 @@ def test_a_pool_of_no_units_that_was_corrected_has_paid_its_plays(copy: pathlib.
     assert "TV1/1: paid by pool 6, which was corrected" in run(*words, status=1)
 
 
-def test_plays_that_a_correction_of_another_pool_may_have_paid(copy: pathlib.Path, program: str) -> None:
+def test_plays_that_a_correction_of_another_pool_may_have_paid(copy: pathlib.Path, program: str, decided: pathlib.Path) -> None:
     right = FIRST._replace(returns=[("RADIO1", 1), ("RADIO2", 1), ("TV1", 1)])
     then, office, _ = corrected(copy, quarter.OFFICE, right, program)
     assert {it: office.pools[it].amount > 0 for it in office.pools if it > 5} == {6: True, 7: False}
@@ -141,7 +141,7 @@ def test_plays_that_a_correction_of_another_pool_may_have_paid(copy: pathlib.Pat
         words = [word for reporter, number in named for word in ("--returns", f"{reporter}/{number}")]
         assert (told in run("correct", then, pool, *words, "--program", program)) == is_told
     # A void one of them was paid by no pool of 0 units, so that correcting that one puts nothing right.
-    then.with_name("void.txt").write_text("TV1/1\n")
+    (decided / "void.txt").write_text("TV1/1\n")
     assert "TV1/1 is void and stands in pool 7 of 0 units: where a correction has paid it, correct that pool again" in run_errors(then)
     assert "has paid what is void" not in run_errors(then)
     assert "every account was paid what is right" in run("correct", then, 7, "--program", program)
@@ -164,11 +164,11 @@ def test_what_a_correction_has_to_have_paid_first(copy: pathlib.Path, program: s
 
 def run_errors(copy: pathlib.Path) -> str:
     """The remarks of a proposed order."""
-    from society_office.command_words import void_list
+    from society_office import decisions
     from society_office.orders import Wanted, propose
 
     with open_copy(copy) as opened:
-        return "\n".join(propose(opened, 1, "PR", Wanted(), void_list(copy.parent / "copy.db", None)).remarks)
+        return "\n".join(propose(opened, 1, "PR", Wanted(), decisions.read(decisions.need_folder()).void).remarks)
 
 
 def test_a_cut_that_is_none(copy: pathlib.Path, program: str) -> None:
@@ -199,14 +199,14 @@ def settled_units(copy: pathlib.Path) -> dict[str, int]:
         }
 
 
-def test_what_was_corrected_is_not_settled_again(copy: pathlib.Path, program: str, tmp_path: pathlib.Path) -> None:
+def test_what_was_corrected_is_not_settled_again(copy: pathlib.Path, program: str, tmp_path: pathlib.Path, decided: pathlib.Path) -> None:
     assert set(settled_units(copy)) == {"ATABC2600010", "ATABC2600020", "FREPS2600004"}
     then, office, _ = corrected(
         copy, quarter.OFFICE, FIRST._replace(cut={**quarter.FIRST_CUT, quarter.ALPHA: 3, quarter.DELTA: 2}), program
     )
     assert settled_units(then) == {"FREPS2600004": reckoning.unclaimed(quarter.OFFICE, 3)["FREPS2600004"][1]}
     for void in ("CORRECTED1  # paid all the same\n", ""):
-        then.with_name("void.txt").write_text(void)
+        (decided / "void.txt").write_text(void)
         assert "275,863 units of pool 1 have one owner now; it was corrected" in run("unclaimed", then)
     settled = settle(then, office, program, tmp_path / "round")
     assert json.loads((tmp_path / "round/PR.json").read_text())["returns"] == [["SETTLED", 2]] and settled_units(settled) == {}
@@ -306,7 +306,9 @@ def test_what_was_settled_goes_to_the_pool_that_was_corrected_first(copy: pathli
 
 
 @pytest.mark.parametrize("is_paid", [False, True])
-def test_a_round_and_a_correction_of_one_copy(copy: pathlib.Path, program: str, tmp_path: pathlib.Path, is_paid: bool) -> None:
+def test_a_round_and_a_correction_of_one_copy(
+    copy: pathlib.Path, program: str, tmp_path: pathlib.Path, is_paid: bool, decided: pathlib.Path
+) -> None:
     run("unclaimed", copy, "--settle", tmp_path / "round")
     run("correct", copy, 1, "--cut", "now", "--program", program, "--into", tmp_path / "correct")
     steps = [("/returns/SETTLED/1", (tmp_path / "round/PR.csv").read_bytes()), ("/pools/6", (tmp_path / "round/PR.json").read_bytes())]
@@ -316,7 +318,7 @@ def test_a_round_and_a_correction_of_one_copy(copy: pathlib.Path, program: str, 
         steps.append(("/pools/7", (tmp_path / "correct/CORRECTED1.json").read_bytes()))
     then = further(program, copy, steps, tmp_path / "then.db")
     if not is_paid:
-        then.with_name("void.txt").write_text("CORRECTED1/1  # the round was paid\n")
+        (decided / "void.txt").write_text("CORRECTED1/1  # the round was paid\n")
     said = run("correct", then, 1, "--cut", "now", "--program", program)
     assert "rounds of settling have paid 275,863 units of this pool" in said and "nothing is missing" in said or not is_paid
     assert ("every account was paid what is right" in said) != is_paid

@@ -96,8 +96,8 @@ def test_why_and_since_when(
     assert (isrc in settled) == (isrc == "FREPS2600006")
 
 
-def test_an_order_is_proposed(copy: pathlib.Path) -> None:
-    copy.with_name("void.txt").write_text(quarter.VOID)
+def test_an_order_is_proposed(copy: pathlib.Path, decided: pathlib.Path) -> None:
+    (decided / "void.txt").write_text(quarter.VOID)
     assert json.loads(run("propose", copy, "--amount", 1000)) == {
         "amount": 1000,
         "cut": [

@@ -114,9 +114,11 @@ def test_the_pages_of_pools(copy: pathlib.Path, tmp_path: pathlib.Path) -> None:
     assert (head["units in pools"], head["unclaimed"]) == (f"{amounts:,}", part(unclaimed, amounts))
 
 
-def test_the_pages_of_balances_and_stations(copy: pathlib.Path, tmp_path: pathlib.Path, monkeypatch: pytest.MonkeyPatch) -> None:
+def test_the_pages_of_balances_and_stations(
+    copy: pathlib.Path, tmp_path: pathlib.Path, monkeypatch: pytest.MonkeyPatch, decided: pathlib.Path
+) -> None:
     monkeypatch.setattr(site, "PER_PAGE", 3)
-    copy.with_name("void.txt").write_text(quarter.VOID)
+    (decided / "void.txt").write_text(quarter.VOID)
     run("site", copy, "--into", tmp_path / "site")
     total, pages = sum(BALANCES.values()), range(-(-len(BALANCES) // 3))
     listed = [rows((tmp_path / f"site/balances{f'-{k + 1}' if k else ''}.html").read_text(), "<h2>") for k in pages]

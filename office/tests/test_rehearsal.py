@@ -66,14 +66,14 @@ def test_plays_that_were_paid_in_both_rights(office: pathlib.Path, program: str,
         assert f"RADIO3/3 has the same plays as {other}: the plays would be paid twice" in found
 
 
-def test_returns_that_are_far_from_others(office: pathlib.Path, program: str) -> None:
+def test_returns_that_are_far_from_others(office: pathlib.Path, program: str, decided: pathlib.Path) -> None:
     found = [it for it in notes(office, program, order(*(("RADIO4", it) for it in range(1, 6)))) if "points" in it]
     # The others of RADIO4/3 have 1,050 in the middle, so that it is just ten times that; RADIO4/4 is just not.
     assert found == [
         "RADIO4/3 has 10,500 points, 10 times those of the station's others: look at it",
         "RADIO4/5 has 100 points, and the station's others 5,750 in the middle: look at it",
     ]
-    office.with_name("void.txt").write_text("RADIO4/3-4\n")
+    (decided / "void.txt").write_text("RADIO4/3-4\n")
     assert [it for it in notes(office, program, order(("RADIO4", 5))) if "points" in it] == [
         "RADIO4/5 has 100 points, and the station's others 1,050 in the middle: look at it"
     ]
@@ -82,9 +82,9 @@ def test_returns_that_are_far_from_others(office: pathlib.Path, program: str) ->
     assert "RADIO4/3 has 10,500 points, 10 times those of the station's others: look at it" in remarks
 
 
-def test_what_is_void_and_what_is_left_out(office: pathlib.Path, program: str, tmp_path: pathlib.Path) -> None:
-    (tmp_path / "list").write_text("TV1/2\nRADIO4/2-4\n")
-    found = notes(office, program, order(("TV1", 1), ("TV1", 2)), "--void", tmp_path / "list")
+def test_what_is_void_and_what_is_left_out(office: pathlib.Path, program: str, decided: pathlib.Path) -> None:
+    (decided / "void.txt").write_text("TV1/2\nRADIO4/2-4\n")
+    found = notes(office, program, order(("TV1", 1), ("TV1", 2)))
     assert "TV1/2 is void, by the list of void returns" in found
     assert "not named, and paid by no pool: RADIO1/4, RADIO3/1-2, RADIO4/1,5" in found
     assert f"{quarter.GAMMA} has files that wait, which this order does not count" in found
@@ -206,7 +206,7 @@ def test_returns_of_the_office_itself(office: pathlib.Path, program: str, tmp_pa
     assert f"{units:,} units of it go to recordings that no single work of the cut names, so to UNCLAIMED" in found
 
 
-def test_a_round_and_a_correction_over_one_copy(office: pathlib.Path, program: str, tmp_path: pathlib.Path) -> None:
+def test_a_round_and_a_correction_over_one_copy(office: pathlib.Path, program: str, tmp_path: pathlib.Path, decided: pathlib.Path) -> None:
     run("unclaimed", office, "--settle", tmp_path / "round")
     run("correct", office, 1, "--cut", "now", "--program", program, "--into", tmp_path / "correct")
     bodies = {"SETTLED": tmp_path / "round/PR.csv", "CORRECTED1": tmp_path / "correct/CORRECTED1-1.csv"}
@@ -215,13 +215,13 @@ def test_a_round_and_a_correction_over_one_copy(office: pathlib.Path, program: s
         assert f"note: {other} was written over the same copy and may pay the same units" in run(
             "rehearse", both, order, "--program", program
         )
-    both.with_name("void.txt").write_text("SETTLED\n")
+    (decided / "void.txt").write_text("SETTLED\n")
     assert "over the same copy" not in run("rehearse", both, tmp_path / "correct/CORRECTED1.json", "--program", program)
     # One that a pool has paid may have paid them, void or not; one without a row pays none.
     closed = further(program, both, [("/pools/6", (tmp_path / "correct/CORRECTED1.json").read_bytes())], tmp_path / "closed.db")
-    closed.with_name("void.txt").write_text("CORRECTED1\n")
+    (decided / "void.txt").write_text("CORRECTED1\n")
     assert "note: CORRECTED1/1 was written over the same copy" in run("rehearse", closed, tmp_path / "round/PR.json", "--program", program)
     bodies = {"SETTLED": (tmp_path / "round/PR.csv").read_bytes(), "CORRECTED1": b"isrc,plays,seconds\n"}
     empty = further(program, office, [(f"/returns/{it}/1", body) for it, body in bodies.items()], tmp_path / "empty.db")
-    empty.with_name("void.txt").unlink()
+    (decided / "void.txt").write_text("")
     assert "over the same copy" not in run("rehearse", empty, tmp_path / "round/PR.json", "--program", program)

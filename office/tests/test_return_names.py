@@ -57,11 +57,11 @@ def test_a_list_of_void_returns(tmp_path: pathlib.Path) -> None:
 
 
 @pytest.mark.parametrize("line", [it for it in NONE if it.strip() and "#" not in it and it != " RADIO1" and "\n" not in it])
-def test_a_line_of_a_list_that_names_none(copy: pathlib.Path, line: str) -> None:
-    copy.with_name("void.txt").write_text(f"TV1/2\n\n{line} # a remark\n")
+def test_a_line_of_a_list_that_names_none(copy: pathlib.Path, line: str, decided: pathlib.Path) -> None:
+    (decided / "void.txt").write_text(f"TV1/2\n\n{line} # a remark\n")
     for words in (["propose", copy, "--amount", 1], ["site", copy, "--into", copy.parent / "site"]):
         said = run(*words, status=1)
-        assert said.startswith(f"society-office: {copy.with_name('void.txt')}, line 3: ") and said.count("\n") == 1
+        assert said.startswith(f"society-office: {decided / 'void.txt'}, line 3: ") and said.count("\n") == 1
     assert not (copy.parent / "site").exists()
 
 
@@ -76,8 +76,8 @@ REFUSED = {
 
 
 @pytest.mark.parametrize("words", REFUSED)
-def test_returns_that_were_asked_for_and_cannot_be_paid(copy: pathlib.Path, words: str) -> None:
-    copy.with_name("void.txt").write_text(quarter.VOID)
+def test_returns_that_were_asked_for_and_cannot_be_paid(copy: pathlib.Path, words: str, decided: pathlib.Path) -> None:
+    (decided / "void.txt").write_text(quarter.VOID)
     target = copy.with_name("order.json")
     said = run("propose", copy, "--amount", 1, "--returns", "RADIO1", "--returns", words, "--output", target, status=1)
     assert REFUSED[words] in said and said.count("\n") == 1 and not target.exists()
@@ -93,12 +93,12 @@ def test_only_what_was_asked_for_is_named(copy: pathlib.Path) -> None:
     assert any(it.startswith("RADIO1/4 has the same plays as RADIO1/3, paid by pool 3 in the PR") for it in found.remarks)
 
 
-def test_an_order_that_throws_all_away_has_to_be_asked_for(copy: pathlib.Path) -> None:
-    copy.with_name("void.txt").write_text("TV1\n")
+def test_an_order_that_throws_all_away_has_to_be_asked_for(copy: pathlib.Path, decided: pathlib.Path) -> None:
+    (decided / "void.txt").write_text("TV1\n")
     target = copy.with_name("order.json")
     assert "no return can be named" in run("propose", copy, "--amount", 1, "--output", target, status=1) and not target.exists()
     run("propose", copy, "--amount", 1, "--no-returns", "--output", target)
     found = json.loads(target.read_text())
     assert found["returns"] == [] and len(found["cut"]) == len(quarter.NAMES)
-    copy.with_name("void.txt").unlink()
+    (decided / "void.txt").write_text("")
     assert json.loads(run("propose", copy, "--amount", 1, "--no-files"))["cut"] == []

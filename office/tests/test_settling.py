@@ -65,7 +65,9 @@ def test_the_offices_own_reporters() -> None:
     assert corrected_by("CORRECTED7") == 7 and corrected_by("SETTLED") is None
 
 
-def test_a_round_that_waits_is_neither_named_nor_repeated(copy: pathlib.Path, tmp_path: pathlib.Path, program: str) -> None:
+def test_a_round_that_waits_is_neither_named_nor_repeated(
+    copy: pathlib.Path, tmp_path: pathlib.Path, program: str, decided: pathlib.Path
+) -> None:
     folder = tmp_path / "round"
     run("unclaimed", copy, "--settle", folder)
     body = (folder / "PR.csv").read_bytes()
@@ -80,7 +82,7 @@ def test_a_round_that_waits_is_neither_named_nor_repeated(copy: pathlib.Path, tm
     assert "a return of the office itself" in run("propose", then, "--amount", 5, "--returns", "SETTLED", status=1)
     assert "a return of the office itself" in run("correct", then, 1, "--returns", "SETTLED/1", "--program", program, status=1)
     # A return that was stored by mistake is taken out of the way as a void one, and its number is not used again.
-    then.with_name("void.txt").write_text("SETTLED/1 # not sent whole\n")
+    (decided / "void.txt").write_text("SETTLED/1 # not sent whole\n")
     run("unclaimed", then, "--settle", tmp_path / "second")
     assert json.loads((tmp_path / "second/PR.json").read_text())["returns"] == [["SETTLED", 2]]
     assert (tmp_path / "second/PR.csv").read_bytes() == body
@@ -113,7 +115,7 @@ def test_both_rights_have_returns_of_their_own(copy: pathlib.Path, tmp_path: pat
     assert f"{asked:,} units of what went to nobody are settled by SETTLED/1, which pool 7 has paid\n" in shown
     assert "50 units of what went to nobody are settled by SETTLED/2, which pool 8 has paid\n" in shown
     said = CliRunner(mix_stderr=False).invoke(main, ["unclaimed", str(closed), "--settle", str(tmp_path / "again")])
-    assert said.stderr == "nothing is left that has one owner now: nothing was written\n" and not (tmp_path / "again").exists()
+    assert said.stderr.endswith("nothing is left that has one owner now: nothing was written\n") and not (tmp_path / "again").exists()
     said = CliRunner(mix_stderr=False).invoke(main, ["unclaimed", str(closed), "--settle", str(tmp_path / "round")])
     assert f"MR.csv, MR.json, PR.csv, PR.json in {tmp_path / 'round'} are of an earlier run" in said.stderr
 

@@ -12,7 +12,8 @@ from society_office.unclaimed import Cause, Unclaimed
 from test_statements import run
 
 COMMANDS = (
-    "balances check compare correct explain file health parties propose rebuild rehearse resend returned site statement unclaimed why"
+    "balances check compare correct decisions explain file health parties propose rebuild rehearse resend returned site statement unclaimed "
+    "void why"
 )
 CAUSES = {"none": "nobody", "plays": "nobody", "share": "share", "conflict": "conflict"}
 
@@ -43,8 +44,8 @@ def test_a_recording_is_counted_once(copy: pathlib.Path, tmp_path: pathlib.Path,
     assert "no plays: 1 unit, 1 pool\n" in run("unclaimed", office, "--pool", 73)
 
 
-def test_the_pages(copy: pathlib.Path, tmp_path: pathlib.Path) -> None:
-    copy.with_name("void.txt").write_text(quarter.VOID)
+def test_the_pages(copy: pathlib.Path, tmp_path: pathlib.Path, decided: pathlib.Path) -> None:
+    (decided / "void.txt").write_text(quarter.VOID)
     folder = tmp_path / "site"
     run("site", copy, "--into", folder)
     pages = {str(it.relative_to(folder)): it.read_text() for it in folder.rglob("*.html")}

@@ -5,6 +5,7 @@ import csv
 import io
 import json
 import pathlib
+import re
 
 import pytest
 import quarter
@@ -17,16 +18,17 @@ from society_office.cli import main
 from society_office.copy import open_copy
 from society_office.page_sums import changed
 from society_office.plain_text import plain
-from society_office.pool_names import pool_names
+from society_office.pool_names import names_in
 from society_office.records import sender_names
 from society_office.statements import Statements, folder_of
 
 
 def run(*words: object, status: int = 0, out: bool = False) -> str:
-    """What the command prints on standard output, or where it fails on standard error; it has to end with this status."""
+    """What the command prints on standard output, or where it fails on standard error, but for what is said of the decisions; it has to end
+    with this status."""
     ended = CliRunner(mix_stderr=False).invoke(main, [str(it) for it in words], catch_exceptions=False)
     assert ended.exit_code == status, (ended.output, ended.stderr)
-    return ended.output if status == 0 or out else ended.stderr
+    return ended.output if status == 0 or out else re.sub(r"\Adecisions of .* old\n", "", ended.stderr)
 
 
 def test_the_office_credits_what_the_rules_say(copy: pathlib.Path) -> None:
@@ -111,10 +113,10 @@ def test_a_large_statement_has_every_sum(copy: pathlib.Path, key: str) -> None:
 
 
 @pytest.mark.parametrize("key", sorted([*reckoning.balances(quarter.OFFICE), *quarter.NAMES]))
-def test_a_csv_is_what_a_writer_of_csv_makes(copy: pathlib.Path, key: str, request: pytest.FixtureRequest) -> None:
-    copy.with_name("pools.txt").write_text(NAMED)
+def test_a_csv_is_what_a_writer_of_csv_makes(copy: pathlib.Path, key: str, request: pytest.FixtureRequest, decided: pathlib.Path) -> None:
+    (decided / "pools.txt").write_text(NAMED)
     with open_copy(copy) as opened:
-        wanted = statements.as_csv(Statements(opened).of(key).credits, pool_names(copy))
+        wanted = statements.as_csv(Statements(opened).of(key).credits, names_in(decided / "pools.txt"))
     assert run("statement", copy, key, "--format", "csv") == wanted
     request.getfixturevalue("every_statement_is_large")
     assert run("statement", copy, key, "--format", "csv") == wanted
@@ -145,13 +147,14 @@ DAYS = {"1": ("'=A \"first\", of all", "2026-01-01", "2026-03-31"), "3": ("Secon
 
 
 @pytest.mark.parametrize("key", sorted([*reckoning.balances(quarter.OFFICE), *quarter.NAMES]))
-def test_a_csv_names_the_pools(copy: pathlib.Path, key: str, tmp_path: pathlib.Path) -> None:
-    (tmp_path / "names").write_text(NAMED)
-    text = run("statement", copy, key, "--format", "csv", "--pools", tmp_path / "names")
+def test_a_csv_names_the_pools(copy: pathlib.Path, key: str, decided: pathlib.Path) -> None:
+    (decided / "pools.txt").write_text(NAMED)
+    text = run("statement", copy, key, "--format", "csv")
     assert text.startswith("pool,right,isrc,title,work,publisher,account,units,pool_name,first_day,last_day\n")
     rows = list(csv.DictReader(io.StringIO(text)))
     assert sorted(it["pool"] for it in rows) == sorted(str(it[0]) for it in lines_by(key))
     assert all((it["pool_name"], it["first_day"], it["last_day"]) == DAYS.get(it["pool"], ("", "", "")) for it in rows)
+    (decided / "pools.txt").write_text("")
     without = list(csv.reader(io.StringIO(run("statement", copy, key, "--format", "csv"))))
     assert [it[:8] for it in without] == [it[:8] for it in csv.reader(io.StringIO(text))]
     assert all(it[8:] == [""] * 3 for it in without[1:])
