@@ -12,8 +12,8 @@ from typing import Any
 
 import click
 
-from society_office import __version__, account_commands, checking, decision_commands, health, money_commands, parties, signals
-from society_office import standby_commands, statement_output, why
+from society_office import __version__, account_commands, checking, closing_commands, decision_commands, health, money_commands, parties
+from society_office import signals, standby_commands, statement_output, why
 from society_office.command_words import COPY_HELP, NUMBER, PATH, POOL, PROGRAM_HELP, WRONG, Command, fail, looked_up, names_known
 from society_office.command_words import noted, with_decisions
 from society_office.copy import beside
@@ -316,5 +316,6 @@ def site(copy: pathlib.Path, into: pathlib.Path, folder: pathlib.Path | None) ->
     say(f"{count:,} files in {into}; begin with {into / 'index.html'}")
 
 
-for command in (*account_commands.COMMANDS, *decision_commands.COMMANDS, *money_commands.COMMANDS, *standby_commands.COMMANDS):
-    main.add_command(command)
+for module in (account_commands, closing_commands, decision_commands, money_commands, standby_commands):
+    for command in module.COMMANDS:
+        main.add_command(command)

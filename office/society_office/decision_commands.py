@@ -5,6 +5,7 @@ import pathlib
 import click
 
 from society_office import decisions
+from society_office.closing import PERSONS
 from society_office.command_words import DECISIONS_HELP, PATH, WRONG, Command
 from society_office.errors import OfficeError
 from society_office.journal import MOMENT, one_line
@@ -19,9 +20,12 @@ REMARK = "#"
 @click.argument("folder", type=PATH, required=False)
 @click.option("--begin", is_flag=True, help="Make the folder, or the files that it lacks.")
 @click.option("--why", metavar="WORDS", help="Write into the journal that files were changed by hand, and why.")
+@click.option("--persons", type=click.Choice(["1", "2"]), help="From now on a pool is closed by so many persons; with --why.")
 @click.option("--last", type=click.IntRange(0, 1_000_000), default=10, show_default=True, metavar="N", help="So many lines of the journal.")
 @click.pass_context
-def show_decisions(context: click.Context, folder: pathlib.Path | None, begin: bool, why: str | None, last: int) -> None:
+def show_decisions(
+    context: click.Context, folder: pathlib.Path | None, begin: bool, why: str | None, persons: str | None, last: int
+) -> None:
     """What the office has decided, and the last lines of the journal.
 
     FOLDER has void.txt, amendments.txt, pools.txt and journal.txt, which people read and keep in git. The first three may be changed by
@@ -31,7 +35,9 @@ def show_decisions(context: click.Context, folder: pathlib.Path | None, begin: b
     if begin and (made := decisions.begin(place)):
         say(f"begun in {place}: {', '.join(made)}")
     found = decisions.read(place)
-    if why is not None:
+    if persons is not None:
+        found = set_persons(found, int(persons), why)
+    elif why is not None:
         found = note_by_hand(found, why)
     say(found.words)
     for it in found.journal[-last:] if last else ():
@@ -39,6 +45,15 @@ def show_decisions(context: click.Context, folder: pathlib.Path | None, begin: b
     if by_hand := found.changed_by_hand:
         say(f"{', '.join(by_hand)}: changed since its last line in the journal: `society-office decisions --why ..` writes one")
         context.exit(WRONG)
+
+
+def set_persons(found: decisions.Decisions, count: int, why: str | None) -> decisions.Decisions:
+    """Writes into the journal how many persons a pool takes from now on."""
+    if why is None:
+        raise click.UsageError("--persons is for good, so give --why too")
+    with decisions.writing(found.folder) as it:
+        it.note(next(words for words, number in PERSONS.items() if number == count), why)
+        return it.had
 
 
 def note_by_hand(found: decisions.Decisions, why: str) -> decisions.Decisions:

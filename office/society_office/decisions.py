@@ -238,6 +238,14 @@ def replace(file: pathlib.Path, content: bytes) -> None:
     sync(file.parent)
 
 
+def make(folder: pathlib.Path) -> None:
+    """Makes a folder in the folder of decisions, for the same users."""
+    if not folder.is_dir():
+        folder.mkdir()
+        folder.chmod(folder.parent.stat().st_mode & 0o7777)
+        sync(folder.parent)
+
+
 def sync(folder: pathlib.Path) -> None:
     """The names of a folder are on the disk."""
     handle = os.open(folder, os.O_RDONLY | os.O_DIRECTORY | os.O_CLOEXEC)

@@ -1,0 +1,331 @@
+"""An order closed at an office: one pool, whatever breaks off and whatever answers; nothing over a copy that is not of now."""
+
+import contextlib
+import http.client
+import http.server
+import json
+import pathlib
+import shutil
+import socket
+import threading
+import time
+from collections.abc import Iterator
+from typing import Any
+
+import pytest
+import quarter
+from click.testing import CliRunner
+from conftest import further, put, running
+from society_office import closing, closing_commands, decisions, journal
+from society_office.cli import main
+from society_office.copy import open_copy
+from society_office.errors import OfficeError
+from society_office.program import free_port
+from test_statements import run
+
+AMOUNT = 70_001
+
+
+@pytest.fixture
+def address(copy: pathlib.Path, program: str, tmp_path: pathlib.Path) -> Iterator[str]:
+    """An office that has what the copy has."""
+    port = free_port()
+    with running(program, pathlib.Path(shutil.copy(copy, tmp_path / "served.db")), port, "--connections", "100000"):
+        yield f"http://127.0.0.1:{port}"
+
+
+@pytest.fixture
+def order(copy: pathlib.Path, tmp_path: pathlib.Path) -> pathlib.Path:
+    """An order over what is unpaid."""
+    run("propose", copy, "--amount", AMOUNT, "--output", tmp_path / "order.json")
+    return tmp_path / "order.json"
+
+
+def words(copy: pathlib.Path, address: str, order: pathlib.Path, program: str, *more: object) -> list[str]:
+    """The words that close a pool."""
+    given = ["close", order, "--copy", copy, "--office", address, "--program", program, "--wait", 1, *more]
+    return [str(it) for it in given]
+
+
+def called(given: list[str], status: int = 0) -> str:
+    """What the command prints, with this status."""
+    done = CliRunner().invoke(main, given, catch_exceptions=False)
+    assert done.exit_code == status, done.output
+    return done.output
+
+
+def sure(copy: pathlib.Path, address: str, order: pathlib.Path, program: str, *more: object) -> list[str]:
+    """The same, with the amount and why."""
+    return words(copy, address, order, program, "--amount", AMOUNT, "--why", "asked by the board", *more)
+
+
+def pools_at(address: str) -> list[int]:
+    """The pools that an office has closed, of the first thirty and the last ones."""
+    connection = http.client.HTTPConnection(address.removeprefix("http://"), timeout=60)
+    found = []
+    for pool in (*range(1, 31), *range(99_990, 100_000)):
+        connection.request("GET", f"/v1/pools/{pool}")
+        answer = connection.getresponse()
+        answer.read()
+        found += [pool] if answer.status == 200 else []
+    connection.close()
+    return found
+
+
+def told(folder: pathlib.Path) -> list[str]:
+    """What the journal has."""
+    return [it.what for it in decisions.read(folder).journal]
+
+
+def test_a_pool_is_closed_and_read_back(copy: pathlib.Path, address: str, order: pathlib.Path, program: str, decided: pathlib.Path) -> None:
+    before = pools_at(address)
+    said = called(sure(copy, address, order, program))
+    number = max(before) + 1
+    assert f"closed pool {number}: {AMOUNT:,} units of the PR, just as rehearsed\n" in said and "Credits" in said
+    assert pools_at(address) == [*before, number]
+    assert told(decided) == [f"{it} pool {number}: {AMOUNT:,} units of the PR" for it in ("closing", "closed")]
+    assert (decided / f"orders/{number}.json").read_bytes() == order.read_bytes()
+    assert decisions.read(decided).journal[-1].sums == {f"orders/{number}.json": journal.sum_of(order.read_bytes())}
+    again = called(sure(copy, address, order, program))
+    assert f"pool {number} is closed by this very order since" in again and pools_at(address) == [*before, number]
+    assert len(told(decided)) == 2
+
+
+def test_nothing_is_sent_without_the_amount(
+    copy: pathlib.Path, address: str, order: pathlib.Path, program: str, decided: pathlib.Path
+) -> None:
+    before = pools_at(address)
+    for amount in ("70000", "70001.00", "seventy"):
+        done = CliRunner().invoke(main, words(copy, address, order, program), input=f"{amount}\nwhy\n", catch_exceptions=False)
+        assert done.exit_code == 1 and f"the amount is {AMOUNT:,} units, and {amount} was said: nothing was sent" in done.output
+    assert "Nothing was sent to the office" in called(words(copy, address, order, program, "--dry-run"))
+    assert pools_at(address) == before and told(decided) == [] and not (decided / "orders").exists()
+    done = CliRunner().invoke(main, words(copy, address, order, program), input="70,001\nasked by the board\n", catch_exceptions=False)
+    assert done.exit_code == 0 and len(pools_at(address)) == len(before) + 1
+    assert decisions.read(decided).journal[-1].why == "asked by the board"
+
+
+def sent(address: str, path: str, body: bytes) -> None:
+    """Puts something at an office."""
+    connection = http.client.HTTPConnection(address.removeprefix("http://"), timeout=60)
+    assert put(connection, path, body) in (200, 201)
+    connection.close()
+
+
+@pytest.mark.parametrize(
+    "path, body, what",
+    [
+        ("/returns/RADIO1/9", b"isrc,plays,seconds\nATABC2600001,1,1\n", "return RADIO1/9"),
+        ("/pools/8", b'{"amount":5,"cut":[],"returns":[]}', "pool 8"),
+        ("/pools/77", b'{"amount":5,"cut":[],"returns":[]}', "a pool (UNCLAIMED has "),
+    ],
+)
+def test_a_copy_that_is_not_of_now(
+    copy: pathlib.Path, address: str, order: pathlib.Path, program: str, path: str, body: bytes, what: str, decided: pathlib.Path
+) -> None:
+    with open_copy(copy) as opened:
+        assert closing.free_pool(opened) == 6 and ("RADIO1", 6) not in list(opened.rows("SELECT reporter, number FROM returns"))
+    sent(address, path.replace("/RADIO1/9", "/RADIO1/7").replace("/8", "/6"), body)
+    said = called(sure(copy, address, order, program), status=1)
+    what = what.replace("RADIO1/9", "RADIO1/7").replace("pool 8", "pool 6")
+    assert f"the office has what {copy} has not: {what}" in said and "systemctl start society-backup" in said
+    assert told(decided) == []
+
+
+def test_a_copy_that_has_more(copy: pathlib.Path, address: str, program: str, tmp_path: pathlib.Path, decided: pathlib.Path) -> None:
+    more = further(program, copy, [("/returns/RADIO7/1", b"isrc,plays,seconds\nATABC2600001,1,1\n")], tmp_path / "more.db")
+    run("propose", more, "--amount", AMOUNT, "--output", tmp_path / "order.json")
+    said = called(sure(more, address, tmp_path / "order.json", program), status=1)
+    assert f"{more} has what the office has not: return RADIO7/1. An older file is served" in said and told(decided) == []
+
+
+def test_what_is_void_is_not_paid(copy: pathlib.Path, address: str, order: pathlib.Path, program: str, decided: pathlib.Path) -> None:
+    first = json.loads(order.read_bytes())["returns"][0]
+    run("void", f"{first[0]}/{first[1]}", "--why", "a wrong month")
+    assert f"{first[0]}/{first[1]} is void, by {decided}/void.txt" in called(sure(copy, address, order, program), status=1)
+
+
+def test_two_persons(
+    copy: pathlib.Path, address: str, order: pathlib.Path, program: str, decided: pathlib.Path, monkeypatch: pytest.MonkeyPatch
+) -> None:
+    before = pools_at(address)
+    run("decisions", "--persons", 2, "--why", "the board wants it")
+    assert "nobody has asked for this order" in called(sure(copy, address, order, program, "--approve"), status=1)
+    monkeypatch.setattr(journal, "who", lambda: "anna")
+    monkeypatch.setattr(closing, "who", lambda: "anna")
+    assert "asked for. A second person closes it" in called(sure(copy, address, order, program))
+    assert "anna has asked for this order, so another person" in called(sure(copy, address, order, program, "--approve"), status=1)
+    monkeypatch.setattr(journal, "who", lambda: "bert")
+    monkeypatch.setattr(closing, "who", lambda: "bert")
+    whole = order.read_bytes()
+    order.write_bytes(whole.replace(b"70001", b"70002"))
+    given = words(copy, address, order, program, "--approve", "--amount", AMOUNT + 1, "--why", "x")
+    assert "nobody has asked for this order, or it was changed since" in called(given, status=1)
+    order.write_bytes(whole)
+    assert pools_at(address) == before
+    called(words(copy, address, order, program, "--approve", "--amount", AMOUNT))
+    assert len(pools_at(address)) == len(before) + 1
+    last = decisions.read(decided).journal[-1]
+    assert (last.who, last.why) == ("bert", "asked by the board (asked for by anna)")
+    run("decisions", "--persons", 1, "--why", "back")
+    assert closing.persons(decisions.read(decided).journal) == 1
+
+
+class Odd(http.server.BaseHTTPRequestHandler):
+    """What stands before an office and answers as it is told to where a pool is put; else it hands on."""
+
+    office, mode, left = "", "", 0
+    protocol_version = "HTTP/1.1"
+
+    def handed_on(self) -> tuple[int, bytes]:
+        """What the office answers."""
+        body = self.rfile.read(int(self.headers.get("Content-Length", 0)))
+        connection = http.client.HTTPConnection(type(self).office.removeprefix("http://"), timeout=60)
+        connection.request(self.command, self.path, body=body if self.command == "PUT" else None)
+        answer = connection.getresponse()
+        found = answer.status, answer.read()
+        connection.close()
+        return found
+
+    def answer(self, status: int, body: bytes) -> None:
+        """Answers."""
+        self.send_response(status)
+        self.send_header("Content-Length", str(len(body)))
+        self.end_headers()
+        self.wfile.write(body)
+
+    def do_GET(self) -> None:
+        """A question."""
+        if type(self).mode == "forgets" and "/pools/" in self.path:
+            self.answer(404, b'{"error":"unknown"}')
+            return
+        status, body = self.handed_on()
+        if type(self).mode == "other" and "/pools/" in self.path and status == 200:
+            body = body.rsplit(b",", 1)[0] + b",12345\n"
+        self.answer(status, body)
+
+    def do_PUT(self) -> None:
+        """What is put."""
+        kind = type(self)
+        if "/pools/" not in self.path or kind.left == 0 or kind.mode in ("forgets", "other"):
+            self.answer(*self.handed_on())
+            return
+        kind.left -= 1
+        if kind.mode.endswith("after"):
+            self.handed_on()
+        if kind.mode.startswith("hangs"):
+            time.sleep(3)
+        elif kind.mode.startswith("reset"):
+            self.connection.setsockopt(socket.SOL_SOCKET, socket.SO_LINGER, b"\1\0\0\0\0\0\0\0")
+        elif kind.mode == "garbage":
+            self.wfile.write(b"\x00\xffgarbage\r\n\r\n")
+        elif kind.mode == "page":
+            self.answer(200, b"<html>a page</html>")
+        else:
+            self.answer(int(kind.mode[:3]), b'{"error":"busy"}' if kind.mode.startswith("503") else b'{"error":"reused"}')
+            return
+        self.close_connection = True
+
+    def log_message(self, *_: Any) -> None:
+        """Says nothing."""
+
+
+@contextlib.contextmanager
+def odd(address: str, mode: str, left: int = 1_000) -> Iterator[str]:
+    """The address of something odd before an office."""
+    kind = type("Odd", (Odd,), {"office": address, "mode": mode, "left": left})
+    server = http.server.ThreadingHTTPServer(("127.0.0.1", 0), kind)
+    thread = threading.Thread(target=server.serve_forever)
+    thread.start()
+    try:
+        yield f"http://127.0.0.1:{server.server_port}"
+    finally:
+        server.shutdown()
+        thread.join()
+        server.server_close()
+
+
+@pytest.mark.parametrize("mode", ["hangs", "hangs after", "reset", "reset after", "garbage", "page", "503", "503 after", "forgets"])
+def test_an_office_that_gives_no_answer(
+    copy: pathlib.Path, address: str, order: pathlib.Path, program: str, decided: pathlib.Path, mode: str
+) -> None:
+    before = pools_at(address)
+    with odd(address, mode) as other:
+        said = called(sure(copy, other, order, program), status=1)
+    assert "run it again" in said or "run this again" in said
+    assert [it.partition(" ")[0] for it in told(decided)] == ["closing"]
+    another = order.with_name("another.json")
+    another.write_bytes(order.read_bytes().replace(b"70001", b"70003"))
+    assert f"`society-office close {decided}/orders/6.json` ends it" in called(words(copy, address, another, program), status=1)
+    # No amount and no reason is asked for again.
+    said = called(words(copy, address, decided / "orders/6.json", program))
+    assert "begun by " in said and f"closed pool 6: {AMOUNT:,} units of the PR, just as rehearsed\n" in said
+    assert pools_at(address) == [*before, 6] and [it.partition(" ")[0] for it in told(decided)] == ["closing", "closed"]
+
+
+def test_an_office_that_has_no_room_for_a_while(copy: pathlib.Path, address: str, order: pathlib.Path, program: str) -> None:
+    with odd(address, "503", left=2) as other:
+        assert "closed pool 6" in called(sure(copy, other, order, program))
+
+
+def test_an_order_that_is_refused_is_given_up(
+    copy: pathlib.Path, address: str, order: pathlib.Path, program: str, decided: pathlib.Path
+) -> None:
+    with odd(address, "409", left=1) as other:
+        assert "pool 6 is not closed: another order stands under this number" in called(sure(copy, other, order, program), status=1)
+    assert [it.partition(":")[0] for it in told(decided)] == ["closing pool 6", "gave up pool 6"]
+    assert "closed pool 6" in called(sure(copy, address, order, program))
+
+
+def test_a_pool_that_credits_otherwise_is_told(
+    copy: pathlib.Path, address: str, order: pathlib.Path, program: str, decided: pathlib.Path
+) -> None:
+    with odd(address, "other") as other:
+        said = called(sure(copy, other, order, program), status=1)
+    assert "pool 6 is closed, but rehearsed were " in said and "12,345 units" in said
+    assert "(not as rehearsed: " in decisions.read(decided).journal[-1].why
+
+
+def test_what_was_begun_is_taken_back(copy: pathlib.Path, address: str, order: pathlib.Path, program: str, decided: pathlib.Path) -> None:
+    with odd(address, "reset") as other:
+        called(sure(copy, other, order, program), status=1)
+    assert "gave up pool 6" in called(words(copy, address, order, program, "--give-up", "--why", "a typing error"))
+    assert "was not begun" in called(words(copy, address, order, program, "--give-up", "--why", "x"), status=1)
+    with odd(address, "reset after") as other:
+        called(sure(copy, other, order, program), status=1)
+    assert "pool 6 is closed, and stays so" in called(words(copy, address, order, program, "--give-up", "--why", "x"), status=1)
+
+
+def test_another_command_decides_meanwhile(
+    copy: pathlib.Path, address: str, order: pathlib.Path, program: str, decided: pathlib.Path, monkeypatch: pytest.MonkeyPatch
+) -> None:
+    before = pools_at(address)
+
+    def confirmed(*_: object) -> str:
+        run("void", "RADIO1/3", "--why", "meanwhile")
+        return "why"
+
+    monkeypatch.setattr(closing_commands, "confirmed", confirmed)
+    assert "was changed meanwhile by another command" in called(sure(copy, address, order, program), status=1)
+    assert pools_at(address) == before
+
+
+@pytest.mark.parametrize("reporter", ["DUE3F0A9C21", "LATE3F0A9C21", "AMEND1"])
+def test_an_order_of_the_office_itself_has_its_own_number(
+    copy: pathlib.Path, address: str, program: str, tmp_path: pathlib.Path, reporter: str
+) -> None:
+    made = {"amount": 0, "cut": [[quarter.ALPHA, 1]], "returns": [[reporter, 99_998]]}
+    (tmp_path / "99998.json").write_text(json.dumps(made))
+    given = words(copy, address, tmp_path / "99998.json", program, "--amount", 0, "--why", "x")
+    assert f"it has to stand beside the order, which pays return 99998 of {reporter}" in called(given, status=1)
+    (tmp_path / f"{reporter}-99998.csv").write_text("isrc,plays,seconds\n")
+    assert "closed pool 99998: 0 units of the PR" in called(given)
+    assert 99_998 in pools_at(address)
+
+
+def test_what_is_no_order(copy: pathlib.Path, address: str, program: str, tmp_path: pathlib.Path) -> None:
+    for text in ("", "{}", "[]", '{"amount":"5","returns":[]}', '{"amount":5,"returns":[1]}'):
+        (tmp_path / "order.json").write_text(text)
+        assert "the file is no order" in called(words(copy, address, tmp_path / "order.json", program), status=1)
+    with pytest.raises(OfficeError):
+        closing.order_of(b"\xff")
