@@ -3,6 +3,7 @@
 import contextlib
 import os
 import pathlib
+import re
 import sqlite3
 import sys
 import time
@@ -10,8 +11,9 @@ from collections.abc import Callable, Iterator
 from typing import TypeVar
 
 from society_office import book_log, page_sums
-from society_office.copy import beside, is_in_use
+from society_office.copy import beside, is_in_use, open_copy
 from society_office.errors import OfficeError
+from society_office.numbering import as_sent
 
 PROCESSES = pathlib.Path("/proc")
 # How often, and after how many seconds, an office that has a file not open is looked at again: it may be just starting or ending.
@@ -23,7 +25,11 @@ USAGE = """usage: python3 -m society_office.book_files check DATABASE
        python3 -m society_office.book_files write-log DATABASE TARGET
        python3 -m society_office.book_files with-sums DATABASE TARGET
        python3 -m society_office.book_files resum DATABASE
-       python3 -m society_office.book_files office DATABASE"""
+       python3 -m society_office.book_files office DATABASE
+       python3 -m society_office.book_files front DATABASE SENDER
+       python3 -m society_office.book_files settings FILE"""
+# A setting of the office: the whole line behind `=`, in quotes or not.
+SETTING = re.compile(r"""^[ \t]*(SOCIETY|TERRITORY|NAME)=[ \t]*(?:"([^"]*)"|'([^']*)'|(.*?))[ \t]*$""", re.MULTILINE)
 
 
 def log_of(database: pathlib.Path) -> pathlib.Path:
@@ -109,6 +115,23 @@ def office_words(database: pathlib.Path) -> list[str]:
     return ["--society", str(society), "--territory", str(territory), f"--name={name}"]
 
 
+def front_of(database: pathlib.Path, sender: str) -> str:
+    """The front of a sender as an office tells it; the empty text of a file of layout 1, which has none."""
+    with open_copy(database) as copy:
+        if copy.layout == 1:
+            return ""
+        line = copy.line(sender)
+        return as_sent(line.front) if line else "0"
+
+
+def settings_words(file: pathlib.Path) -> list[str]:
+    """The options that the settings of an office come to; an OfficeError where they are not filled in."""
+    found = {it[1]: it[2] or it[3] or it[4] or "" for it in SETTING.finditer(file.read_text())}
+    if not all(found.get(it) for it in ("SOCIETY", "TERRITORY", "NAME")):
+        raise OfficeError(f"{file} has no SOCIETY, TERRITORY or NAME")
+    return ["--society", found["SOCIETY"].lstrip("0"), "--territory", found["TERRITORY"].lstrip("0"), f"--name={found['NAME']}"]
+
+
 def resum(database: pathlib.Path) -> None:
     """Sums the pages of a file anew, into which sqlite3 has written; an OfficeError where it has no sums, or an office has it open."""
     if is_in_use(database):
@@ -132,6 +155,8 @@ COMMANDS: dict[str, tuple[int, Callable[..., object]]] = {
     "with-sums": (2, page_sums.write_with_sums),
     "resum": (1, resum),
     "office": (1, lambda database: print("\n".join(office_words(database)))),
+    "front": (2, lambda database, sender: print(front_of(database, str(sender)))),
+    "settings": (1, lambda file: print("\n".join(settings_words(file)))),
 }
 
 

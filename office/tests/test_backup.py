@@ -9,6 +9,7 @@ import re
 import shutil
 import signal
 import socket
+import sqlite3
 import subprocess
 import sys
 import tempfile
@@ -18,8 +19,10 @@ from collections.abc import Iterator
 
 import pytest
 from conftest import OFFICE, ROOT, running
+from society_office.copy import open_copy
 from society_office.errors import OfficeError
 from society_office.health import Looked, look_into_backup
+from society_office.program import Office as Asked
 from society_office.program import free_port
 
 BACKUP, RESTORE = ROOT / "debian/bin/society-backup", ROOT / "debian/bin/society-restore"
@@ -539,6 +542,127 @@ def test_half_of_two_files_is_not_restored(copy: pathlib.Path, tmp_path: pathlib
         done = restored(copy, tmp_path / "home/office.db", program)
         assert done.returncode == status and ("is half of a copy of two files" in done.stderr) == bool(status)
         assert (tmp_path / "home/office.db").exists() == (not status)
+
+
+def test_what_a_restore_has_put_aside_is_a_copy(copy: pathlib.Path, tmp_path: pathlib.Path, program: str) -> None:
+    """With the log beside it, which has what came last."""
+    home, other = tmp_path / "home", tmp_path / "other"
+    for it in home, other:
+        it.mkdir()
+    shutil.copy(copy, home / "office.db")
+    with running(program, home / "office.db", port := free_port(), "--existing", "--connections", "9"):
+        office = Asked(f"http://127.0.0.1:{port}")
+        assert office.ask("PUT", "/v1/returns/RADIO7/1", b"isrc,plays,seconds\n").status == 201
+        office.close()
+    assert restored(copy, home / "office.db", program).returncode == 0
+    aside = next(home.glob("aside-*")) / "office.db"
+    assert aside.with_name("office.db-wal").stat().st_size > 41
+    assert restored(aside, other / "office.db", program).returncode == 0
+    with open_copy(other / "office.db") as opened:
+        assert ("RADIO7", 1) in list(opened.rows("SELECT reporter, number FROM returns"))
+    aside.with_name("office.db-wal").write_bytes(changed_bit(aside.with_name("office.db-wal").read_bytes()))
+    assert restored(aside, other / "office.db", program).returncode == 1
+
+
+def changed_bit(log: bytes) -> bytes:
+    """A log with a changed bit in its first page."""
+    return log[:99] + bytes([log[99] ^ 1]) + log[100:]
+
+
+# In the place of `systemctl`: a service that runs, whose start is told, and which ends with the script's own test.
+RUNNING = """#!/bin/bash
+cd "$(dirname "$0")"
+echo "$1" >> asked
+case $1 in
+  is-active) cat state ;;
+  stop) echo inactive > state ;;
+  start) echo active > state; echo "$(sha256sum < "$SOCIETY_FILE") $(date +%s%N)" >> served ;;
+esac
+exit 0
+"""
+
+
+def service(tmp_path: pathlib.Path, copy: pathlib.Path) -> tuple[pathlib.Path, pathlib.Path, dict[str, str]]:
+    """A service that runs over another book than a copy: its folder, its tools, and the environment of a script."""
+    home, tools = tmp_path / "home", tmp_path / "tools"
+    for it in home, tools:
+        it.mkdir()
+    shutil.copy(copy, home / "office.db")
+    with contextlib.closing(sqlite3.connect(home / "office.db")) as database, database:
+        database.execute("UPDATE returns SET number = 999 WHERE number = 1 AND reporter = 'TV1'")
+    (tools / "state").write_text("active\n")
+    (tools / "systemctl").write_text(RUNNING)
+    (tools / "systemctl").chmod(0o755)
+    return home, tools, {**os.environ, "PATH": f"{tools}:{os.environ['PATH']}", "SOCIETY_FILE": str(home / "office.db")}
+
+
+def restore_words(copy: pathlib.Path, home: pathlib.Path, program: str, *more: object) -> list[str]:
+    """The words of a restore that stops a service."""
+    given = [RESTORE, "--from", copy, "--db", home / "office.db", "--sender", "PB000000012", "--program", program, *more]
+    return [str(it) for it in given]
+
+
+@pytest.mark.parametrize("front", ["0", "2", "4", "57", "26-0003", "999999"])
+def test_a_wrong_front_stops_nothing(copy: pathlib.Path, tmp_path: pathlib.Path, program: str, front: str) -> None:
+    home, tools, env = service(tmp_path, copy)
+    before = everything(home)
+    done = subprocess.run(restore_words(copy, home, program, "--front", front), env=env, capture_output=True, text=True, check=False)
+    said = f"restore: FAILED: the front of PB000000012 in {copy} is 3, not {front}: look for the right copy; nothing was changed\n"
+    assert (done.returncode, done.stderr) == (1, said)
+    assert everything(home) == before and not (tools / "asked").exists()
+
+
+@pytest.mark.parametrize("name, status", [("OTHER SOCIETY", 1), ("EXAMPLE SOCIETY", 0)])
+def test_the_settings_of_another_office_stop_nothing(
+    copy: pathlib.Path, tmp_path: pathlib.Path, program: str, name: str, status: int
+) -> None:
+    home, tools, env = service(tmp_path, copy)
+    with http.server.HTTPServer(("127.0.0.1", 0), Telling) as office:
+        threading.Thread(target=office.serve_forever, daemon=True).start()
+        (tmp_path / "office.conf").write_text(f'# words\nSOCIETY=900\n TERRITORY=40\nNAME="{name}"\nPORT={office.server_port}\n')
+        words = restore_words(copy, home, program, "--front", "3", "--settings", tmp_path / "office.conf")
+        done = subprocess.run(words, env=env, capture_output=True, text=True, check=False)
+        office.shutdown()
+    assert done.returncode == status and ("is of another office (--society 900 --territory 40 --name=E" in done.stderr) == bool(status)
+    assert (tools / "asked").exists() == (not status)
+
+
+class Telling(Refusing):
+    """An office that tells a front of 3."""
+
+    def do_GET(self) -> None:
+        self.send_response(200)
+        self.end_headers()
+        self.wfile.write(b'{"front":3,"held":[]}')
+
+
+def test_what_ran_is_put_back_where_the_office_does_not_answer(copy: pathlib.Path, tmp_path: pathlib.Path, program: str) -> None:
+    home, tools, env = service(tmp_path, copy)
+    before, script = (home / "office.db").read_bytes(), shorter(RESTORE, tmp_path, 2)
+    words = [str(script), *restore_words(copy, home, program, "--front", "3", "--port", free_port())[1:]]
+    done = subprocess.run(words, env=env, capture_output=True, text=True, timeout=100, check=False)
+    assert done.returncode == 1 and "restore: what was there is back again, and society is started again\n" in done.stderr
+    assert (home / "office.db").read_bytes() == before and not (home / "office.db-wal").exists()
+    assert (tools / "state").read_text() == "active\n" and (tools / "asked").read_text().split().count("stop") == 2
+
+
+@pytest.mark.parametrize("after", ["cp", "mv", "curl", "mktemp", "sync"])
+def test_a_restore_that_is_killed_leaves_a_service_that_runs(
+    copy: pathlib.Path, tmp_path: pathlib.Path, program: str, after: str
+) -> None:
+    """Over what was there, or over the copy, whose front is right."""
+    home, tools, env = service(tmp_path, copy)
+    where = subprocess.run(["which", after], capture_output=True, text=True, check=True).stdout.strip()
+    killing = f'#!/bin/bash\nif grep -qx stop {tools}/asked 2> /dev/null; then kill -9 $PPID; exit 1; fi\nexec {where} "$@"\n'
+    (tools / after).write_text(killing)
+    (tools / after).chmod(0o755)
+    words = restore_words(copy, home, program, "--front", "3", "--port", free_port())
+    done = subprocess.run(words, env=env, capture_output=True, text=True, timeout=100, check=False)
+    until = time.monotonic() + 20
+    while (tools / "state").read_text() != "active\n" and time.monotonic() < until:
+        time.sleep(0.05)
+    # (curl is run by a part of the script)
+    assert done.returncode in (-signal.SIGKILL, 128 + signal.SIGKILL) and (tools / "state").read_text() == "active\n"
 
 
 def test_nothing_is_restored_under_an_office(copy: pathlib.Path, tmp_path: pathlib.Path, program: str) -> None:
