@@ -4,6 +4,7 @@ No office lists its returns and its pools. So it is asked for the numbers beside
 which no office takes, and which it refuses as `reused` where there is one; for pools also by the balances of accounts.
 """
 
+import dataclasses
 import urllib.parse
 from collections.abc import Iterable, Iterator
 from typing import Protocol
@@ -93,20 +94,45 @@ def greatest_accounts(copy: Copy) -> dict[str, int]:
     return dict(copy.rows("SELECT account, units FROM balances ORDER BY units DESC, account LIMIT ?", MOST_ACCOUNTS))
 
 
-def lacks(copy: Copy, office: Asked, accounts: Iterable[str] | None = None) -> Iterator[str]:
-    """What the office has and the copy has not, in words."""
+@dataclasses.dataclass(frozen=True)
+class Lack:
+    """What one has and the other has not: files of a sender up to a number, a return, a pool, or units of an account."""
+
+    kind: str
+    key: str
+    number: int
+    words: str
+
+    def is_in(self, copy: Copy) -> bool:
+        """Whether a copy has it."""
+        if self.kind == FRONT:
+            line = copy.line(self.key)
+            return line is not None and (line.front >= self.number or self.number in (*line.waiting, *line.skipped))
+        if self.kind == RETURN:
+            return copy.row("SELECT 1 FROM returns WHERE reporter = ? AND number = ?", self.key, self.number) is not None
+        if self.kind == POOL:
+            return copy.row("SELECT 1 FROM pools WHERE pool = ?", self.number) is not None
+        return balance_in(copy, self.key) >= self.number
+
+
+def lacks(copy: Copy, office: Asked) -> Iterator[Lack]:
+    """What the office has and the copy has not."""
     for line in copy.lines():
         front, held = front_at(office, line.sender)
-        if front > line.front or held - {*line.waiting, *line.skipped} - set(range(line.front + 1)):
-            yield f"files of {line.sender} (its front is {as_sent(front)} there, and {as_sent(line.front)} in the copy)"
+        have = {*line.waiting, *line.skipped}
+        for number in [front] * (front > line.front) + sorted(it for it in held - have if it > line.front):
+            words = f"file {as_sent(number)} of {line.sender} (its front is {as_sent(front)} there, and {as_sent(line.front)} in the copy)"
+            yield Lack(FRONT, line.sender, number, words)
     for reporter, numbers in returns_of(copy).items():
-        yield from (f"return {reporter}/{it}" for it in numbers_beside(numbers, LAST_NUMBER) if has_return(office, reporter, it))
-    pools = copy.pools()
-    yield from (f"pool {it}" for it in numbers_beside((it for it in pools if it <= LAST_POOL // 2), LAST_POOL) if has_pool(office, it))
-    balances = greatest_accounts(copy) if accounts is None else {it: balance_in(copy, it) for it in accounts}
-    for account, units in balances.items():
+        for number in numbers_beside(numbers, LAST_NUMBER):
+            if has_return(office, reporter, number):
+                yield Lack(RETURN, reporter, number, f"return {reporter}/{number}")
+    for pool in numbers_beside((it for it in copy.pools() if it <= LAST_POOL // 2), LAST_POOL):
+        if has_pool(office, pool):
+            yield Lack(POOL, "", pool, f"pool {pool}")
+    for account, units in greatest_accounts(copy).items():
         if (told := balance_at(office, account)) > units:
-            yield f"a pool ({account} has {told:,} units there, and {units:,} in the copy)"
+            yield Lack(ACCOUNT, account, told, f"a pool ({account} has {told:,} units there, and {units:,} in the copy)")
             return
 
 
@@ -116,16 +142,22 @@ def balance_in(copy: Copy, account: str) -> int:
     return int(row[0]) if row else 0
 
 
-def lost(copy: Copy, office: Asked) -> Iterator[str]:
-    """What the copy has and the office has not, in words: by fronts, by the last return of each reporter, and by balances."""
+def lost(copy: Copy, office: Asked) -> Iterator[Lack]:
+    """What the copy has and the office has not: by fronts, by the last return of each reporter, and by balances."""
     for line in copy.lines():
         front, _ = front_at(office, line.sender)
         if front < line.front:
-            yield f"files of {line.sender} (its front is {as_sent(front)} there, and {as_sent(line.front)} in the copy)"
+            words = f"files of {line.sender} (its front is {as_sent(front)} there, and {as_sent(line.front)} in the copy)"
+            yield Lack(FRONT, line.sender, line.front, words)
+    yield from lost_money(copy, office)
+
+
+def lost_money(copy: Copy, office: Asked) -> Iterator[Lack]:
+    """The same of returns and pools."""
     for reporter, numbers in returns_of(copy).items():
         if not has_return(office, reporter, numbers[-1]):
-            yield f"return {reporter}/{numbers[-1]}"
+            yield Lack(RETURN, reporter, numbers[-1], f"return {reporter}/{numbers[-1]}")
     for account, units in greatest_accounts(copy).items():
         if (told := balance_at(office, account)) < units:
-            yield f"a pool ({account} has {told:,} units there, and {units:,} in the copy)"
+            yield Lack(ACCOUNT, account, units, f"a pool ({account} has {told:,} units there, and {units:,} in the copy)")
             return

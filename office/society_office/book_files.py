@@ -1,6 +1,8 @@
 """The files of an office: whether the one that runs writes what its path names, and the log is whole. Scripts use it by `python3 -m`."""
 
 import contextlib
+import dataclasses
+import json
 import os
 import pathlib
 import re
@@ -11,11 +13,15 @@ from collections.abc import Callable, Iterator
 from typing import TypeVar
 
 from society_office import book_log, page_sums
+from society_office.answered import Lack, lacks
+from society_office.asking import Connections
 from society_office.copy import beside, is_in_use, open_copy
 from society_office.errors import OfficeError
 from society_office.numbering import as_sent
 
 PROCESSES = pathlib.Path("/proc")
+# Seconds that an answer is waited for.
+LONGEST_ASKED = 10.0
 # How often, and after how many seconds, an office that has a file not open is looked at again: it may be just starting or ending.
 TRIES, PAUSE = 5, 0.2
 Found = TypeVar("Found")
@@ -26,6 +32,8 @@ USAGE = """usage: python3 -m society_office.book_files check DATABASE
        python3 -m society_office.book_files with-sums DATABASE TARGET
        python3 -m society_office.book_files resum DATABASE
        python3 -m society_office.book_files office DATABASE
+       python3 -m society_office.book_files lacking DATABASE PROCESS
+       python3 -m society_office.book_files has DATABASE ASKED
        python3 -m society_office.book_files front DATABASE SENDER
        python3 -m society_office.book_files settings FILE"""
 # A setting of the office: the whole line behind `=`, in quotes or not.
@@ -132,6 +140,33 @@ def settings_words(file: pathlib.Path) -> list[str]:
     return ["--society", found["SOCIETY"].lstrip("0"), "--territory", found["TERRITORY"].lstrip("0"), f"--name={found['NAME']}"]
 
 
+def port_of(process: str) -> int:
+    """The port at which an office listens, by its process; an OfficeError where it names none."""
+    words = [os.fsdecode(it) for it in (PROCESSES / process / "cmdline").read_bytes().split(b"\0")]
+    named = [after for word, after in zip(words, words[1:]) if word == "--port"]
+    named += [it.removeprefix("--port=") for it in words if it.startswith("--port=")]
+    if not named or not named[0].isdecimal():
+        raise OfficeError(f"process {process} names no port")
+    return int(named[0])
+
+
+def tell_lacking(database: pathlib.Path, process: pathlib.Path) -> None:
+    """Prints what the office of a process answers and a copy has not, as JSON; it may have come since the copy was made."""
+    office = Connections(f"http://127.0.0.1:{port_of(process.name)}", LONGEST_ASKED)
+    try:
+        with open_copy(database) as copy:
+            print(json.dumps([dataclasses.asdict(it) for it in lacks(copy, office)] if copy.layout > 1 else []))
+    finally:
+        office.close()
+
+
+def need_all(database: pathlib.Path, asked: pathlib.Path) -> None:
+    """An OfficeError where a copy has not what an office answered before the copy was made."""
+    with open_copy(database) as copy:
+        if missing := [it.words for it in (Lack(**one) for one in json.loads(asked.read_text())) if not it.is_in(copy)]:
+            raise OfficeError("; ".join(missing))
+
+
 def resum(database: pathlib.Path) -> None:
     """Sums the pages of a file anew, into which sqlite3 has written; an OfficeError where it has no sums, or an office has it open."""
     if is_in_use(database):
@@ -155,6 +190,8 @@ COMMANDS: dict[str, tuple[int, Callable[..., object]]] = {
     "with-sums": (2, page_sums.write_with_sums),
     "resum": (1, resum),
     "office": (1, lambda database: print("\n".join(office_words(database)))),
+    "lacking": (2, tell_lacking),
+    "has": (2, need_all),
     "front": (2, lambda database, sender: print(front_of(database, str(sender)))),
     "settings": (1, lambda file: print("\n".join(settings_words(file)))),
 }

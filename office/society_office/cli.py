@@ -12,8 +12,8 @@ from typing import Any
 
 import click
 
-from society_office import __version__, account_commands, checking, closing_commands, decision_commands, health, money_commands, parties
-from society_office import signals, standby_commands, statement_output, why
+from society_office import __version__, account_commands, checking, closing_commands, decision_commands, findings, health
+from society_office import money_commands, parties, signals, standby_commands, statement_output, why
 from society_office.command_words import COPY_HELP, NUMBER, PATH, POOL, PROGRAM_HELP, WRONG, Command, fail, looked_up, names_known
 from society_office.command_words import noted, with_decisions
 from society_office.copy import beside
@@ -262,6 +262,7 @@ def tell_why(copy: pathlib.Path, sender: str) -> None:
 @click.option("--state", type=PATH, metavar="FILE", help="Where fronts, and what was said of a backup, are kept for next time.")
 @click.option("--certificate", metavar="WHERE", help="The proxy's certificate: a file, or host:port.")
 @click.option("--standby", type=PATH, metavar="FILE", help="What `resend --state` keeps of a standby.")
+@click.option("--decisions", type=PATH, metavar="FOLDER", help="The folder of decisions, and what a new machine needs.")
 @click.option("--program", metavar="FILE", help="The program that audits the backup (default: `society` on the PATH).")
 @click.option("--seconds", type=NUMBER, default=5.0, show_default=True, help="An answer takes no longer.")
 @click.option("--memory", type=NUMBER, default=67.0, show_default=True, help="A start needs so many percent of the memory it may take.")
@@ -276,17 +277,18 @@ def tell_health(**given: Any) -> None:
 
     It answers in time; no front is lower than it was last time or in the newest backup; the office writes the file of --db, its
     log is whole, and its next start has the memory that it needs; the disk has room; the newest backup is young, and the program
-    finds it sound; the certificate has days left; a standby has all that came. What is not named is not looked at. Status 0: all is
+    finds it sound, and the office has its returns and pools; the certificate has days left; a standby has all that came; the folder of
+    decisions is as its journal says. What is not named is not looked at. Status 0: all is
     well, 1: something is to be looked at, 2: something is wrong.
     """
     password = os.environ.get("SOCIETY_PASSWORD", "")
-    names = ("address", "user", "authority", "database", "disk", "backups", "state", "program", "certificate", "standby")
+    names = ("address", "user", "authority", "database", "disk", "backups", "state", "program", "certificate", "standby", "decisions")
     if given["database"] is not None and given["disk"] is None:
         given["disk"] = beside(given["database"], "").parent
     looked = health.Looked(password=password, **{it: given[it] for it in names})
     limits = ("seconds", "memory", "free", "hours", "days", "minutes")
     found = health.look(looked, health.Limits(*(given[it] for it in limits)))
-    text = {"json": health.as_json, "metrics": health.as_metrics}.get(given["form"], health.as_lines)(found)
+    text = {"json": findings.as_json, "metrics": findings.as_metrics}.get(given["form"], findings.as_lines)(found)
     try:
         sys.stdout.write(text)
         sys.stdout.flush()
@@ -296,8 +298,8 @@ def tell_health(**given: Any) -> None:
         # (status 1 would say that something is to be looked at, which is no failure to those who ask for the status alone)
         drop_output()
         say(f"society-office: standard output: {error.strerror or error}", error=True)
-        sys.exit(health.WRONG)
-    sys.exit(health.worst(found))
+        sys.exit(findings.WRONG)
+    sys.exit(findings.worst(found))
 
 
 @main.command(epilog=COPY_HELP, short_help="Pages of the whole office.")

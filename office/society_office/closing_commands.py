@@ -110,12 +110,12 @@ def need_copy_of_now(copy: Copy, office: Connections, it: Plan) -> None:
     """An OfficeError where the office has more than the copy, has another book, or has closed a pool under this number."""
     need_same_society(copy, office)
     lacking = [f"pool {it.pool}"] if answered.has_pool(office, it.pool) else []
-    lacking += [one for one in answered.lacks(copy, office) if one not in lacking]
+    lacking += [one.words for one in answered.lacks(copy, office) if one.words not in lacking]
     if lacking:
         told = "; ".join(lacking[:MOST_TOLD]) + (f" and {len(lacking) - MOST_TOLD} more" if len(lacking) > MOST_TOLD else "")
         raise OfficeError(f"the office has what {copy.path} has not: {told}. Take a copy of now: systemctl start society-backup")
     if lost := next(answered.lost(copy, office), None):
-        raise OfficeError(f"{copy.path} has what the office has not: {lost}. An older file is served, or another office")
+        raise OfficeError(f"{copy.path} has what the office has not: {lost.words}. An older file is served, or another office")
 
 
 def carry_out(known: Decisions, office: Connections, it: Plan, found: Rehearsal, order: pathlib.Path, asked: dict[str, Any]) -> None:

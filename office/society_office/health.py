@@ -16,15 +16,16 @@ from collections.abc import Callable, Iterator
 from typing import Any
 
 from society_office import following
+from society_office.asking import Connections
 from society_office.book_files import fault_of_files, log_of, offices, office_words
 from society_office.copy import beside, open_copy
 from society_office.errors import OfficeError
+from society_office.findings import GOOD, WARNING, WRONG, Finding
+from society_office.looking import look_at_decisions, look_at_money
 from society_office.numbering import as_sent
 from society_office.pages import text_of, write_text
 from society_office.program import Office, audited, context_by
 
-GOOD, WARNING, WRONG = 0, 1, 2
-STATES = {GOOD: "good", WARNING: "look", WRONG: "WRONG"}
 HOUR, DAY = 3_600, 86_400
 # What a start needs of memory for each byte of the file, and for each credit and each work that pools look for (docs/SPEEDS.md).
 BY_BYTE, BY_CREDIT, BY_PLAYED = 1.1, 150, 400
@@ -37,17 +38,6 @@ MEMORY_MAX = re.compile(r"^MemoryMax=(.*)$", re.MULTILINE)
 AMOUNT = re.compile(r"(\d+(?:\.\d+)?)([KMGT%]?)", re.ASCII)
 # A sender of whom nothing has come, asked where none is known.
 NOBODY = "PB999999999"
-
-
-@dataclasses.dataclass(frozen=True)
-class Finding:
-    """What was looked at, how it is, in words, and as a number for a monitor."""
-
-    name: str
-    state: int
-    words: str
-    value: float | None = None
-    unit: str = ""
 
 
 @dataclasses.dataclass(frozen=True)
@@ -77,6 +67,7 @@ class Looked:
     program: str | None = None
     certificate: str | None = None
     standby: pathlib.Path | None = None
+    decisions: pathlib.Path | None = None
 
 
 def newest_first(folder: pathlib.Path) -> list[pathlib.Path]:
@@ -256,6 +247,23 @@ def look_into_backup(it: Looked, kept: dict[str, Any]) -> Finding:
     return Finding("sound", state, words, kept["status"], "status")
 
 
+def money_of(it: Looked, limits: Limits) -> Finding:
+    """Whether the office has the returns and the pools of the newest backup."""
+    assert it.backups is not None
+    longest = 2 * limits.seconds
+    office = Connections(it.address, longest, least=longest, user=it.user, password=it.password, authority=it.authority)
+    try:
+        return look_at_money(newest(it.backups), office)
+    finally:
+        office.close()
+
+
+def decisions_of(it: Looked) -> Finding:
+    """Whether what was decided is as the journal says, and stands beside the newest backup."""
+    assert it.decisions is not None
+    return look_at_decisions(it.decisions, newest(it.backups) if it.backups is not None else None)
+
+
 def look_at_certificate(it: Looked, limits: Limits) -> Finding:
     """How many days the certificate has left, of a file or as a server shows it."""
     assert it.certificate is not None
@@ -361,36 +369,11 @@ def look(it: Looked, limits: Limits) -> list[Finding]:
     if it.backups is not None:
         found += tried("backup", lambda: [look_at_backup(it, limits)])
         found += tried("sound", lambda: [look_into_backup(it, state["sound"])])
+        found += tried("money", lambda: [money_of(it, limits)])
     if it.certificate is not None:
         found += tried("certificate", lambda: [look_at_certificate(it, limits)])
     if it.standby is not None:
         found += tried("standby", lambda: [look_at_standby(it, limits)])
+    if it.decisions is not None:
+        found += tried("decisions", lambda: [decisions_of(it)])
     return found if unread else found + tried("state", lambda: keep(it, state))
-
-
-def worst(findings: list[Finding]) -> int:
-    """The state of the worst of them, which is the exit status."""
-    return max((it.state for it in findings), default=GOOD)
-
-
-def as_json(findings: list[Finding]) -> str:
-    """The findings as JSON."""
-    return json.dumps(
-        {"state": STATES[worst(findings)], "findings": [dataclasses.asdict(it) | {"state": STATES[it.state]} for it in findings]}, indent=1
-    ) + "\n"
-
-
-def as_metrics(findings: list[Finding]) -> str:
-    """The findings as text for Prometheus: the state of each (0 good, 1 look, 2 wrong) and its number."""
-    lines = ["# HELP society_state How it is: 0 good, 1 to be looked at, 2 wrong.", "# TYPE society_state gauge"]
-    lines += [f'society_state{{of="{it.name}"}} {it.state}' for it in findings]
-    for it in findings:
-        if it.value is not None:
-            name = f"society_{it.name}_{it.unit}"
-            lines += [f"# TYPE {name} gauge", f"{name} {it.value:g}"]
-    return "\n".join(lines) + "\n"
-
-
-def as_lines(findings: list[Finding]) -> str:
-    """The findings for people."""
-    return "".join(f"{STATES[it.state]:5}  {it.name:11}  {it.words}\n" for it in findings)

@@ -12,6 +12,7 @@ import socket
 import sqlite3
 import subprocess
 import sys
+import tarfile
 import tempfile
 import threading
 import time
@@ -19,6 +20,7 @@ from collections.abc import Iterator
 
 import pytest
 from conftest import OFFICE, ROOT, running
+from society_office import decisions
 from society_office.copy import open_copy
 from society_office.errors import OfficeError
 from society_office.health import Looked, look_into_backup
@@ -688,3 +690,105 @@ def test_no_signal_comes_between_the_renames(copy: pathlib.Path, tmp_path: pathl
     done = subprocess.run(words, env=env, capture_output=True, text=True, check=False)
     assert (done.returncode, done.stderr) == (0, "") and "is in place; what was there is in" in done.stdout
     assert (home / "office.db").read_bytes() == copy.read_bytes() and len(list(next(home.glob("aside-*")).iterdir())) == 1
+
+
+def sent(port: int, path: str, body: bytes) -> None:
+    """Puts something at an office, over a connection that ends."""
+    office = Asked(f"http://127.0.0.1:{port}")
+    assert office.ask("PUT", path, body).status == 201
+    office.close()
+
+
+# The bytes of a log with one frame, of a transaction that has more.
+ONE_FRAME = 32 + 24 + 4096
+NO_ROW = b"isrc,plays,seconds\n"
+ORDER = b'{"amount":5,"cut":[],"returns":[]}'
+
+
+@pytest.mark.parametrize(
+    "path, body, what",
+    [("/v1/returns/RADIO1/6", NO_ROW, "return RADIO1/6"), ("/v1/pools/6", ORDER, "pool 6"), ("/v1/pools/70", ORDER, "a pool (UNCLAIMED ")],
+)
+def test_a_log_that_is_cut_under_the_office_is_told(
+    copy: pathlib.Path, tmp_path: pathlib.Path, program: str, path: str, body: bytes, what: str
+) -> None:
+    """The office goes on answering what its files have not, and the copy alone is sound."""
+    log = copy.with_name("copy.db-wal")
+    with running(program, copy, port := free_port(), "--existing", "--connections", "10000"):
+        sent(port, path, body)
+        assert backed_up(copy, tmp_path, program).returncode == 0
+        os.truncate(log, ONE_FRAME)
+        for words, status in ([], 1), (["--unasked"], 0):
+            done = backed_up(copy, tmp_path, program, *words)
+            said = f"FAILED: the office answers what its files have not: {what}"
+            assert done.returncode == status and (said in done.stderr) == bool(status)
+
+
+# In the place of `cp`: while it copies the first time something is put, which the office answers when it goes on.
+PUTTING_CP = """#!/bin/bash
+if [ ! -e "$0.asked" ]; then
+  touch "$0.asked"
+  (curl -q -s --noproxy '*' -o "$0.answer" -T "$0.csv" http://127.0.0.1:PORT/v1/returns/RADIO1/6 > /dev/null 2>&1 &)
+fi
+exec /bin/cp "$@"
+"""
+
+
+def test_what_comes_meanwhile_is_no_fault(copy: pathlib.Path, tmp_path: pathlib.Path, program: str) -> None:
+    tools = tmp_path / "tools"
+    tools.mkdir()
+    with running(program, copy, port := free_port(), "--existing", "--connections", "10000"):
+        (tools / "cp").write_text(PUTTING_CP.replace("PORT", str(port)))
+        (tools / "cp").chmod(0o755)
+        (tools / "cp.csv").write_bytes(NO_ROW)
+        words = [BACKUP, "--db", copy, "--to", tmp_path / "backups", "--program", program]
+        env = {**os.environ, "PATH": f"{tools}:{os.environ['PATH']}"}
+        done = subprocess.run(words, env=env, capture_output=True, text=True, check=False)
+    assert (done.returncode, done.stderr) == (0, "") and "stored" in (tools / "cp.answer").read_text()
+    with open_copy(next((tmp_path / "backups").glob("*.db"))) as opened:
+        assert ("RADIO1", 6) in list(opened.rows("SELECT reporter, number FROM returns"))
+
+
+def test_an_office_that_gives_no_answer_is_copied_all_the_same(copy: pathlib.Path, tmp_path: pathlib.Path, program: str) -> None:
+    with running(program, copy, port := free_port(), "--existing", "--connections", "10000"):
+        office = socket.create_connection(("127.0.0.1", port))
+        office.sendall(b"GET /v1/pools/1 HTTP/1.1\r\n")
+        done = backed_up(copy, tmp_path, program)
+        office.close()
+    assert done.returncode == 0 and "; not compared with the office: no answer from http://127.0.0.1:" in done.stdout
+
+
+def test_what_a_new_machine_needs_stands_beside_the_copy(copy: pathlib.Path, tmp_path: pathlib.Path, program: str) -> None:
+    decided, settings = tmp_path / "decided", tmp_path / "settings"
+    decisions.begin(decided)
+    settings.mkdir()
+    (settings / "passwords").write_text("office:hash\n")
+    words = ["--with", str(decided), "--with", str(settings), "--with", str(tmp_path / "none"), "--keep", "1"]
+    for _ in range(2):
+        done = backed_up(copy, tmp_path, program, *words)
+        assert (done.returncode, done.stderr) == (0, "")
+    [made] = (tmp_path / "backups").glob("*.db")
+    assert sorted(it.name for it in (tmp_path / "backups").iterdir()) == [".lock", made.name, f"{made.stem}.tar"]
+    assert made.with_suffix(".tar").stat().st_mode & 0o777 == 0o600
+    with tarfile.open(made.with_suffix(".tar")) as found:
+        names = {pathlib.Path("/", it.name) for it in found.getmembers() if it.isfile()}
+    assert names == {*(decided / it for it in decisions.FILES), settings / "passwords"}
+
+
+def test_decisions_that_are_older_than_the_copy_are_told(
+    copy: pathlib.Path, tmp_path: pathlib.Path, program: str, decided: pathlib.Path
+) -> None:
+    home = tmp_path / "home"
+    home.mkdir()
+    shutil.copy(copy, tmp_path / "alone.db")
+    decisions.add(decided, decisions.VOID, ["RADIO1/3"], "void RADIO1/3", "a wrong month")
+    before = (decided / "journal.txt").read_bytes()
+    decisions.add(decided, decisions.VOID, ["RADIO1/4"], "void RADIO1/4", "a wrong month")
+    assert backed_up(copy, tmp_path, program, "--with", str(decided)).returncode == 0
+    made = next((tmp_path / "backups").glob("*.db"))
+    assert "the decisions in" not in restored(made, home / "office.db", program).stdout
+    (decided / "journal.txt").write_bytes(before)
+    said = restored(made, home / "office.db", program).stdout
+    assert f"; the decisions in {decided} are older than the copy: tar -C / -xpf {made.with_suffix('.tar')} {str(decided)[1:]}\n" in said
+    said = restored(tmp_path / "alone.db", home / "office.db", program).stdout
+    assert f"so it is not known whether the decisions in {decided} are older than it" in said

@@ -13,7 +13,8 @@ from office_value import End, Office, Pool, Return, rank
 from society_office import following, health
 from society_office.copy import open_copy
 from society_office.errors import OfficeError
-from society_office.health import GOOD, WARNING, WRONG, Limits, Looked
+from society_office.findings import GOOD, WARNING, WRONG, Finding
+from society_office.health import Limits, Looked
 from society_office.page_sums import changed
 from society_office.program import free_port
 from society_office.resending import Tally
@@ -25,7 +26,7 @@ MINUTE = 60
 HELD = FIRST._replace(number=rank(26, 2), path="files/CW260002RA_900.V22")
 
 
-def look(state: pathlib.Path, minutes: float = 15) -> health.Finding:
+def look(state: pathlib.Path, minutes: float = 15) -> Finding:
     """What health finds."""
     return health.look_at_standby(Looked("http://x", standby=state), Limits(standby=minutes))
 

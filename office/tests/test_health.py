@@ -15,10 +15,11 @@ from collections.abc import Iterator
 
 import pytest
 import quarter
-from conftest import ROOT, running
+from conftest import ROOT, further, running
 from society_office import following, health
 from society_office.copy import open_copy
-from society_office.health import GOOD, WARNING, WRONG, Limits, Looked
+from society_office.findings import GOOD, WARNING, WRONG
+from society_office.health import Limits, Looked
 from society_office.page_sums import changed
 from society_office.program import free_port
 from test_checks import FIRST
@@ -45,7 +46,7 @@ def test_health(copy: pathlib.Path, tmp_path: pathlib.Path, program: str) -> Non
     with running(program, copy, port, "--existing", "--connections", "100"):
         found = json.loads(run(*words, "--json"))
         assert found["state"] == "good"
-        assert [it["name"] for it in found["findings"]] == ["answer", "fronts", "disk", "backup", "sound", "certificate"]
+        assert [it["name"] for it in found["findings"]] == ["answer", "fronts", "disk", "backup", "sound", "money", "certificate"]
         assert json.loads(state.read_text())["fronts"][quarter.BETA] == 1_260_002
         assert 'society_state{of="certificate"} 0' in run(*words, "--metrics")
         state.write_text(json.dumps({"fronts": {quarter.ALPHA: 9}, "sound": {}}))
@@ -295,3 +296,40 @@ def test_the_unit_of_health_fails_where_its_command_does_not_start(status: int, 
     (tmp_path / "society-office").chmod(0o755)
     done = subprocess.run(["bash", "-c", first], env={"PATH": f"{tmp_path}:/usr/bin:/bin"}, check=False)
     assert done.returncode == wanted and "SuccessExitStatus=1\n" in unit
+
+
+@pytest.mark.parametrize(
+    "path, body, what",
+    [
+        ("/returns/RADIO7/1", b"isrc,plays,seconds\n", "return RADIO7/1"),
+        ("/pools/70", b'{"amount":5,"cut":[],"returns":[]}', "a pool (UNCLAIMED has "),
+    ],
+)
+def test_returns_and_pools_that_the_office_has_lost(
+    copy: pathlib.Path, tmp_path: pathlib.Path, program: str, path: str, body: bytes, what: str
+) -> None:
+    port, backups = free_port(), tmp_path / "backups"
+    backups.mkdir()
+    further(program, copy, [(path, body)], backups / "office-1.db")
+    words = ["health", "--office", f"http://127.0.0.1:{port}", "--backups", backups, "--program", program, "--seconds", "60"]
+    with running(program, copy, port, "--existing", "--connections", "100"):
+        said = run(*words, status=2, out=True)
+        assert f"WRONG  money        the office has not what office-1.db has: {what}" in said and "good   fronts" in said
+        shutil.copy(copy, backups / "office-1.db")
+        assert "good   money        the office has the returns and pools of office-1.db\n" in run(*words)
+
+
+def test_what_was_decided_is_looked_at(copy: pathlib.Path, tmp_path: pathlib.Path, decided: pathlib.Path) -> None:
+    backup = pathlib.Path(shutil.copy(copy, tmp_path / "office-1.db"))
+    looked = Looked("", backups=tmp_path, decisions=decided)
+    copy.unlink()
+    found = health.decisions_of(looked)
+    assert found.state == WARNING and f"{backup.with_suffix('.tar')} is not there, which a new machine needs" in found.words
+    backup.with_suffix(".tar").touch()
+    assert health.decisions_of(looked).state == GOOD
+    (decided / "void.txt").write_text("RADIO1\n")
+    found = health.decisions_of(looked)
+    assert found.state == WARNING and "void.txt changed since the last line of the journal" in found.words
+    (decided / "void.txt").write_text("radio1\n")
+    found = health.look(looked, Limits())[-1]
+    assert (found.name, found.state) == ("decisions", WRONG) and "void.txt, line 1" in found.words
