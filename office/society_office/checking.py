@@ -13,7 +13,7 @@ from society_office.errors import OfficeError
 from society_office.fields import ACK_NUMBER, ACK_TITLE, MAX_BODY, WorkFault
 from society_office.numbering import FILE_NAME, as_sent, number_in, path_of, rank_in, segment_of, segment_text
 from society_office.plays import BOM
-from society_office.program import Answer
+from society_office.program import KIND, TRIAL, Answer
 from society_office.records import shown_number, text
 from society_office.return_faults import looks_like_return, return_faults
 from society_office.return_names import LAST_NUMBER
@@ -22,6 +22,8 @@ from society_office.work_faults import CheckedWork, Fault, first_warnings, warne
 SENDER = re.compile(r"[0-9A-Z]{11}", re.ASCII)
 # Faults that only what was registered before shows.
 OF_THE_LINE = (WorkFault.REGISTERED, WorkFault.NOT_REGISTERED)
+# A sender of whom nothing has come, in whose name it is asked what an office is.
+ANY_SENDER = "PB000000000"
 # The reporter under which a trial office is asked.
 TRIAL_REPORTER = "CHECK"
 # The numbers under which returns are tried: high ones, which a trial office over last night's copy has not.
@@ -134,6 +136,16 @@ def check(office: Asked, society: int, territory: int, files: list[Sent], report
     for number, it in enumerate((it for it in files if it.is_return), FIRST_RETURN):
         check_return(office, f"/v1/returns/{reporter}", number, it)
     return Checked(files, ends)
+
+
+def need_trial(office: Asked, address: str) -> None:
+    """An OfficeError where what answers does not say that it is a trial office: what any other one takes stays."""
+    answer = office.ask("GET", f"/v1/senders/{ANY_SENDER}")
+    if answer.kind != TRIAL:
+        raise OfficeError(
+            f"{address} does not say that it is a trial office (it answers {answer.status}, without `{KIND}: {TRIAL}`): nothing was sent. "
+            "The proxy's port of the trial office says it, 8444 as nginx.conf is shipped"
+        )
 
 
 def check_return(office: Asked, path: str, number: int, it: Sent) -> None:

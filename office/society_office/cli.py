@@ -167,6 +167,8 @@ def asked_office(
     words = ["--society", str(society), "--territory", str(territory), f"--name={name}"]
     office: Any = Office(address, **access) if address else ReplayOffice(find_program(program), words)
     try:
+        if address:
+            checking.need_trial(office, address)
         yield office, society, territory
     finally:
         office.close()

@@ -28,6 +28,8 @@ CHECKOUT = pathlib.Path(__file__).resolve().parent.parent.parent
 # Seconds that a throw-away office may take to listen, and to answer.
 START, ANSWER = 600, 600
 MANY = 1_000_000
+# The header in which the proxy before a trial office says so, and what it says.
+KIND, TRIAL = "Society-Office", "trial"
 # What stands in no name of a host.
 # What an audit says that came to no end: nothing where it was killed.
 NOT_LOOKED_AT = re.compile("memory|database store")
@@ -69,10 +71,11 @@ def free_port() -> int:
 
 @dataclasses.dataclass(frozen=True)
 class Answer:
-    """The status and the body of an answer."""
+    """The status and the body of an answer, and what kind of office says that it is one: `trial`, where a proxy tells it."""
 
     status: int
     body: bytes
+    kind: str = ""
 
     @property
     def json(self) -> Any:
@@ -167,7 +170,7 @@ class Office:
                 raise ConnectionAbortedError("broken off")
             self.connection.request(method, self.path + path, body=body, headers=self.headers)
             answer = self.connection.getresponse()
-            return Answer(answer.status, answer.read())
+            return Answer(answer.status, answer.read(), answer.getheader(KIND) or "")
         except (OSError, ValueError, http.client.HTTPException) as error:
             self.connection.close()
             raise OfficeError(f"no answer from {self.address}: {printable(str(error).strip())}") from error

@@ -21,7 +21,7 @@ from society_office.copy import open_copy
 from society_office.findings import GOOD, WARNING, WRONG
 from society_office.health import Limits, Looked
 from society_office.page_sums import changed
-from society_office.program import free_port
+from society_office.program import Office, free_port
 from test_checks import FIRST
 from test_statements import run
 
@@ -146,12 +146,14 @@ def test_a_disk_that_is_full_hides_nothing(tmp_path: pathlib.Path) -> None:
 class Other(http.server.BaseHTTPRequestHandler):
     """Another program than an office, which answers each question alike."""
 
-    said, status = b"", 200
+    said, status, kind = b"", 200, "trial"
 
     def do_GET(self, status: int = 200) -> None:
         """The answer."""
         self.send_response(status)
         self.send_header("Content-Length", str(len(self.said)))
+        if self.kind:
+            self.send_header("Society-Office", self.kind)
         self.end_headers()
         self.wfile.write(self.said)
 
@@ -333,3 +335,21 @@ def test_what_was_decided_is_looked_at(copy: pathlib.Path, tmp_path: pathlib.Pat
     (decided / "void.txt").write_text("radio1\n")
     found = health.look(looked, Limits())[-1]
     assert (found.name, found.state) == ("decisions", WRONG) and "void.txt, line 1" in found.words
+
+
+def test_nothing_is_checked_at_the_office_itself(
+    copy: pathlib.Path, tmp_path: pathlib.Path, program: str, monkeypatch: pytest.MonkeyPatch
+) -> None:
+    """What it takes stays: only what says that it is a trial office gets anything."""
+    (tmp_path / "it.csv").write_text("isrc,plays,seconds\n")
+    (tmp_path / "it.cwr").write_bytes(FIRST)
+    files, port = [tmp_path / "it.csv", tmp_path / "it.cwr"], free_port()
+    with running(program, copy, port, "--existing", "--connections", "100"):
+        said = run("check", *files, "--office", f"http://127.0.0.1:{port}", "--reporter", "RADIO9", status=1)
+        assert "does not say that it is a trial office (it answers 200, without `Society-Office: trial`): nothing was sent" in said
+        office = Office(f"http://127.0.0.1:{port}")
+        assert office.ask("PUT", "/v1/returns/RADIO9/900001", b"").status == 422
+        office.close()
+    monkeypatch.setattr(Other, "kind", "")
+    with other(monkeypatch, b'{"front":0,"held":[]}') as address:
+        assert "nothing was sent" in run("check", *files, "--office", address, status=1)
