@@ -386,16 +386,33 @@ def send_by_form(browser, folder, faults):
     set_form(browser, "send", kind="return", reporter="RADIO2", number="1")
     send_file(browser, folder, plays(1, 3, 7))
     submit(browser, "send")
+    wanted = "RADIO2 has never reported. A return stays under its reporter: look whether it is right, and send again."
+    compare("a reporter that has never reported", state(browser, "send"), wanted)
+    submit(browser, "send")
     compare("a return", state(browser, "send"), "Return 1 is stored.")
     set_form(browser, "send", kind="order")
     submit(browser, "send")
     fault = faults["order"]["1"]
     wanted = f"Not taken: fault 1, {fault['means']}. Cure: {fault['cure']}. The number is free still."
     compare("an order as it was offered", state(browser, "send"), wanted)
-    set_form(browser, "send", order=order_body(5, [[BETA, 9]], []).decode())
+    cut = [[it[0], int(it[2])] for it in rows(browser, "senders") if it[2].isdecimal() and it[2] != "0"]
+    set_form(browser, "send", order=order_body(5, [[it, 9] for it, _ in cut], []).decode())
     submit(browser, "send")
-    compare("a cut too high", state(browser, "send"), f"Not taken. {BETA} has all files up to 5 only: wait for the missing ones, or cut it lower.")
-    set_form(browser, "send", order=order_body(5_000, [[BETA, 4]], [["RADIO2", 1]]).decode())
+    set_form(browser, "send", again="5")
+    submit(browser, "send")
+    compare("a cut too high", state(browser, "send"), f"Not taken. {cut[0][0]} has all files up to {cut[0][1]} only: wait for the missing ones, or cut it lower.")
+    set_form(browser, "send", order=order_body(5_000, cut[:1], [["RADIO2", 1]]).decode())
+    submit(browser, "send")
+    wanted = f"Not sent: the cut leaves out {', '.join(it for it, _ in cut[1:])}. Close such an order by society-office close."
+    compare("an order that lacks a sender", state(browser, "send"), wanted)
+    set_form(browser, "send", order=order_body(5_000, cut, [["RADIO2", 1]]).decode())
+    submit(browser, "send")
+    wanted = f"Pool 3: 5,000 units of the PR, for the returns RADIO2/1, by the files of {len(cut)} senders. "
+    compare("an order is shown first", state(browser, "send").partition("A closed")[0], wanted)
+    set_form(browser, "send", again="500")
+    submit(browser, "send")
+    compare("another amount", state(browser, "send"), "Not sent: the amount is another one.")
+    set_form(browser, "send", again="5,000")
     submit(browser, "send")
     compare("an order", state(browser, "send"), "Pool 3 is closed.")
     compare("pools then", [it[:2] for it in rows(browser, "pools")], [["3", "5,000"], ["2", "10,000"], ["1", "100,000"]])

@@ -64,6 +64,7 @@ class Proxy:
             folder.mkdir(parents=True)
             for file in "index.html", "office.css", "balances.csv", "statement.csv", "some.pdf", "some.other":
                 (folder / file).write_text(name)
+        (self.pages / "site/desk.json").write_text('{"senders": [], "reporters": ["RADIO1"]}')
 
     def hand_over(self, account):
         """Gives the folder and all in it to a user of the system."""

@@ -2,7 +2,7 @@
 import { Looked } from "./files.js";
 import * as office from "./office.js";
 import { PAGE, Pages, addRow, clearRows, nameTables } from "./pages.js";
-import { answerText, fileText, following, numberOf, partText, rankOf, ranges, refusalText, standing, units, unnamedSenders, whoText } from "./words.js";
+import { answerText, fileText, following, numberOf, orderOf, orderText, partText, rankOf, ranges, refusalText, standing, units, unnamedSenders, whoText } from "./words.js";
 
 /** Files of each sender that are looked through for rejected works at first, and further ones at each press of the button. */
 const NEWEST_FILES = 20;
@@ -17,8 +17,8 @@ const TOLD_EVERY = 10;
 /** Senders that are named one by one where the files of several were not looked through. */
 const NAMED_SENDERS = 5;
 
-/** What the page knows: senders with their names and standings, the words of faults, rejected works, and closed pools by number. */
-const known = { senders: null, faults: {}, rejected: [], pools: new Map(), poolsAsked: new Set(), poolsKept: [], around: POOLS_AROUND, asked: new Map() };
+/** What the page knows: senders with their names and standings, what the nightly pages have, the words of faults, rejected works, and closed pools. */
+const known = { senders: null, nightly: null, confirmed: "", faults: {}, rejected: [], pools: new Map(), poolsAsked: new Set(), poolsKept: [], around: POOLS_AROUND, asked: new Map() };
 
 const section = (id) => document.getElementById(id);
 const pages = {};
@@ -367,6 +367,7 @@ function showKind(form) {
   for (const it of form.querySelectorAll(KINDS.map((name) => `.${name}`).join())) {
     it.hidden = !it.classList.contains(kind);
   }
+  form.querySelector(".again").hidden = true;
   form.reporter.required = kind === "return";
   form.body.required = kind !== "order";
   form.number.pattern = { file: "[1-9][0-9]{0,5}|[Cc][Ww].*", return: "[1-9][0-9]{0,5}", order: "[1-9][0-9]{0,4}" }[kind];
@@ -412,7 +413,49 @@ async function worksOf(key, number) {
   });
 }
 
+/** What is sent, in one text: what was confirmed is this and nothing else. */
+const toConfirm = (form) => [form.kind.value, form.reporter.value, form.number.value, form.order.value].join("\n");
+
+/** Why an order is not sent, or asks to be confirmed, and whether the amount is asked for; nothing where it may be sent. One that is none the office refuses. */
+function orderDoubt(form) {
+  const order = orderOf(form.order.value);
+  if (order === null) {
+    return null;
+  }
+  if (known.nightly === null) {
+    return ["bad", "Not sent: the nightly pages are not there, which have all senders of the office, so one may be missing. Close it by society-office close."];
+  }
+  const lacking = (known.senders ?? []).filter((it) => it.front && !order.senders.includes(it.key)).map((it) => it.key);
+  if (lacking.length) {
+    return ["bad", `Not sent: the cut leaves out ${lacking.slice(0, NAMED_SENDERS).join(", ")}${lacking.length > NAMED_SENDERS ? " .." : ""}. Close such an order by society-office close.`];
+  }
+  if (known.confirmed !== toConfirm(form)) {
+    return ["wait", orderText(form.number.value.trim(), order), true];
+  }
+  return form.again.value.replace(/[, ]/g, "") === String(order.amount) ? null : ["bad", "Not sent: the amount is another one.", true];
+}
+
+/** The same of a return by a reporter that the office has never heard of, as a mistyped one is. */
+function returnDoubt(form) {
+  const reporter = form.reporter.value.trim();
+  if (known.nightly === null || known.nightly.reporters.has(reporter) || known.confirmed === toConfirm(form)) {
+    return null;
+  }
+  return ["wait", `${reporter} has never reported. A return stays under its reporter: look whether it is right, and send again.`];
+}
+
 async function send(place, form) {
+  const doubt = { file: () => null, return: returnDoubt, order: orderDoubt }[form.kind.value](form);
+  if (doubt) {
+    place.querySelector(".outcome").replaceChildren();
+    known.confirmed = toConfirm(form);
+    form.querySelector(".again").hidden = !doubt[2];
+    say(place, doubt[1], doubt[0]);
+    return;
+  }
+  known.confirmed = "";
+  form.again.value = "";
+  form.querySelector(".again").hidden = true;
   const [kind, key, number] = [form.kind.value, form.sender.value, numberOf(form.number.value.trim())];
   const list = place.querySelector(".outcome");
   list.replaceChildren();
@@ -506,7 +549,10 @@ async function start() {
   listenForms();
   await guarded(section("senders"), async (place) => {
     known.faults = (await office.own("faults.json")) ?? {};
-    known.senders = (await office.senders()).map((it) => ({ ...it, waiting: [], never: [], looked: new Looked(it.key) }));
+    known.nightly = await office.nightly();
+    const own = await office.senders();
+    const others = (known.nightly?.senders ?? []).filter((it) => !own.some(({ key }) => key === it.key));
+    known.senders = [...own, ...others].map((it) => ({ ...it, waiting: [], never: [], looked: new Looked(it.key) }));
     offerSenders();
     await showSenders(place);
   });

@@ -194,6 +194,12 @@ export async function own(name) {
   }
 }
 
+/** What the nightly pages have of the office: all its `senders`, each `key` and `name`, and all `reporters`; `null` where there are no pages. */
+export async function nightly() {
+  const found = await own("/site/desk.json");
+  return found && { senders: found.senders.map(([key, name]) => ({ key, name })), reporters: new Set(found.reporters) };
+}
+
 /** The senders that staff keep in senders.json, each `key` and `name`. */
 export async function senders() {
   const found = await own("senders.json");

@@ -142,6 +142,24 @@ function conflictText(kind, number, { error, front, sender, pool, reporter, last
 }
 
 /** What came of sending a file, a return or an order. */
+/** What an order says, where it is one: the right, the amount, the senders of its cut, and its returns; else `null`. */
+export function orderOf(text) {
+  try {
+    const { kind = "PR", amount, cut, returns } = JSON.parse(text);
+    return Number.isInteger(amount) && Array.isArray(cut) && Array.isArray(returns) ? { kind, amount, senders: cut.map((it) => it[0]), returns } : null;
+  } catch {
+    return null;
+  }
+}
+
+/** What is to be confirmed before an order closes a pool. */
+export function orderText(number, { kind, amount, senders, returns }) {
+  const named = returns.map(([reporter, it]) => `${reporter}/${it}`);
+  const shown = named.slice(0, 10).join(", ") + (named.length > 10 ? ` and ${units(named.length - 10)} more` : "");
+  const what = named.length ? `the returns ${shown}` : "no return, so that all of it is unclaimed";
+  return `Pool ${number}: ${units(amount)} units of the ${kind}, for ${what}, by the files of ${units(senders.length)} senders. A closed pool stays closed: write the amount once more, and send again.`;
+}
+
 export function answerText(kind, number, answer, faults) {
   switch (answer.status) {
     case 200:

@@ -47,6 +47,8 @@ class PatientOffice:
 
     def __init__(self, office: Office, seconds: float, least: float = LEAST_ANSWER) -> None:
         self.office, self.seconds, self.least, self.asked, self.is_stopped = office, seconds, least, 0, False
+        # What an office is asked before the first thing that is put over a connection: behind one that broke may stand another office.
+        self.first: Request | None = None
 
     def ask(self, it: Request) -> Answer:
         """The answer to a request; an OfficeError where none came in time, the user is refused, or the office is elsewhere."""
@@ -69,14 +71,26 @@ class PatientOffice:
         """The answer, or why it is to be asked again."""
         self.office.wait_for(max(until - time.monotonic(), self.least))
         try:
+            if it.body is not None and self.first is not None and self.office.connection.sock is None:
+                self.need_same(self.first)
             answer = self.office.ask("GET" if it.body is None else "PUT", f"/v1/{it.path}", it.body)
         except OfficeError as error:
-            if isinstance(error.__cause__, ssl.SSLCertVerificationError):
+            if isinstance(error, OtherOffice) or isinstance(error.__cause__, ssl.SSLCertVerificationError):
                 raise
             return str(error)
         if answer.status in AGAIN:
             return f"{self.office.address} answers {answer.status} to {it.path}"
         return answer
+
+    def need_same(self, first: Request) -> None:
+        """An OtherOffice where the office is none, or of another society: it has no such path."""
+        if self.office.ask("PUT", f"/v1/{first.path}", first.body).status == 404:
+            society = first.kind
+            raise OtherOffice(f"{self.office.address} takes no file of society {society}: it is the office of another society, or none")
+
+
+class OtherOffice(OfficeError):
+    """An office of another society: what it would take can't be taken back."""
 
 
 class Connections:
@@ -115,6 +129,12 @@ class Connections:
             raise
         finally:
             threads.shutdown(cancel_futures=True)
+
+    def ask_first(self, first: Request) -> None:
+        """From now on each new connection begins with this question, before anything is put over it."""
+        for it in self.offices:
+            it.first = first
+            it.office.close()
 
     def stop(self) -> None:
         """What is under way ends soon, as where the command is broken off."""

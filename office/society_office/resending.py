@@ -141,7 +141,8 @@ def how_many(copy: Copy) -> int:
 def need_same_society(copy: Copy, office: Connections) -> None:
     """An OfficeError where the other office is of another society: what it would take can't be taken back.
 
-    It is asked to take an empty file, which no office does, by a name that has the society: of another one that is no path at all.
+    It is asked to take an empty file, which no office does, by a name that has the society: of another one that is no path at all. So it
+    is again where a connection broke, before anything is put over the next one.
     """
     (sender,) = copy.row("SELECT sender FROM transmissions") or (ANY_SENDER,)
     name = path_of(rank_in(0, 1), copy.society)
@@ -149,6 +150,7 @@ def need_same_society(copy: Copy, office: Connections) -> None:
         raise OfficeError(
             f"{office.address} takes no file of society {copy.society}: it is the office of another society, or none. Nothing was sent"
         )
+    office.ask_first(Request(str(copy.society), f"senders/{sender}/{name}", b""))
 
 
 def resend(copy: Copy, office: Connections, since_fronts: bool, tell: Callable[[], None]) -> Tally:

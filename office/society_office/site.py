@@ -4,6 +4,7 @@ import csv
 import dataclasses
 import heapq
 import io
+import json
 import pathlib
 import re
 from collections.abc import Callable, Iterable, Iterator, Sequence
@@ -26,7 +27,8 @@ from society_office.why import Rejected, state_lines, story
 MOST_UNCLAIMED, MOST_ACCOUNTS, MOST_REJECTED, PER_PAGE = 40, 40, 50, 500
 PART_OF = {Cause.SHARE: "share", Cause.CONFLICT: "conflict"}
 # The names of pages.
-PAGE = re.compile(r"office\.css|(balances|rejected)\.csv|[a-z]+(-[0-9]+)?\.html|(senders|pools)/[0-9A-Z]+\.html|\..*\.new")
+DESK = "desk.json"
+PAGE = re.compile(r"office\.css|desk\.json|(balances|rejected)\.csv|[a-z]+(-[0-9]+)?\.html|(senders|pools)/[0-9A-Z]+\.html|\..*\.new")
 MENU = [
     ("index.html", "Overview"),
     ("senders.html", "Senders"),
@@ -164,6 +166,7 @@ class Site:
     def files(self) -> Iterator[tuple[str, str]]:
         """All files of the site: their names and texts."""
         yield "office.css", pages.style()
+        yield DESK, self.desk()
         rejected: list[tuple[str, Rejected]] = []
         for line in self.lines:
             told = story(self.copy, line.sender)
@@ -186,6 +189,12 @@ class Site:
         yield from self.station_files()
         yield from self.balance_files()
         self.progress("stations and balances")
+
+    def desk(self) -> str:
+        """What the desk knows the office by: all senders with their names, and all reporters."""
+        senders = [[it.sender, self.senders.get(it.sender, "")] for it in self.lines]
+        reporters = [it for it, in self.copy.rows("SELECT DISTINCT reporter FROM returns ORDER BY reporter")]
+        return json.dumps({"senders": senders, "reporters": reporters}, ensure_ascii=False, indent=1) + "\n"
 
     def overview_files(self, rejected: Sequence[tuple[str, Rejected]]) -> Iterator[tuple[str, str]]:
         """The overview and the senders."""

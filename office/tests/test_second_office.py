@@ -2,6 +2,7 @@
 
 import contextlib
 import dataclasses
+import http.client
 import http.server
 import pathlib
 import random
@@ -415,3 +416,53 @@ def test_nothing_is_sent_to_another_society(copy: pathlib.Path, program: str, tm
         assert resending.how_many(its) == 0
     with standing(program, tmp_path / "same.db") as address:
         assert " 0 known, 0 refused" in run("resend", copy, "--to", address, *words)
+
+
+class Changing(http.server.BaseHTTPRequestHandler):
+    """What stands before an office, and after some requests breaks off and stands before another one."""
+
+    offices, left = [""], 0
+    protocol_version = "HTTP/1.1"
+
+    def do_PUT(self) -> None:
+        kind = type(self)
+        body = self.rfile.read(int(self.headers.get("Content-Length", 0)))
+        kind.left -= 1
+        if kind.left == 0:
+            kind.offices = kind.offices[1:]
+            self.close_connection = True
+            return
+        connection = http.client.HTTPConnection(kind.offices[0].removeprefix("http://"), timeout=60)
+        connection.request("PUT", self.path, body=body)
+        answer = connection.getresponse()
+        said = answer.read()
+        connection.close()
+        self.send_response(answer.status)
+        self.send_header("Content-Length", str(len(said)))
+        self.end_headers()
+        self.wfile.write(said)
+
+    def log_message(self, *_: object) -> None:
+        """Says nothing."""
+
+
+@pytest.mark.parametrize("after", [1, 2, 3, 9, 20])
+def test_another_society_behind_an_interruption_gets_nothing(copy: pathlib.Path, program: str, tmp_path: pathlib.Path, after: int) -> None:
+    port, other = free_port(), tmp_path / "other.db"
+    options = ["--db", str(other), "--port", str(port), "--connections", "99", "--society", "901", "--territory", "40", "--name", "OTHER"]
+    with standing(program, tmp_path / "same.db") as address, subprocess.Popen(
+        [program, "serve", *options], stdout=subprocess.PIPE
+    ) as process:
+        try:
+            assert process.stdout and process.stdout.readline() == b"listening\n"
+            kind = type("Changing", (Changing,), {"offices": [address, f"http://127.0.0.1:{port}"], "left": after})
+            with http.server.ThreadingHTTPServer(("127.0.0.1", 0), kind) as server:
+                threading.Thread(target=server.serve_forever, daemon=True).start()
+                said = run("resend", copy, "--to", f"http://127.0.0.1:{server.server_port}", "--wait", 5, status=1)
+                server.shutdown()
+        finally:
+            process.terminate()
+    assert "takes no file of society 900: it is the office of another society, or none" in said
+    backed_up(other, tmp_path / "its.db")
+    with open_copy(tmp_path / "its.db") as its:
+        assert resending.how_many(its) == 0

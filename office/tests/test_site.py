@@ -1,5 +1,6 @@
 """Pages of the office, and whether it is well."""
 
+import json
 import pathlib
 import re
 
@@ -77,3 +78,12 @@ def test_every_command_tells_itself(program: str) -> None:
         assert f".SS {command}" in manual
         for option in re.findall(r"^  (?:-h, )?(--[a-z]+)", said, re.MULTILINE):
             assert option.replace("-", r"\-") in manual or option == "--help", (command, option)
+
+
+def test_the_desk_is_told_all_senders_and_reporters(copy: pathlib.Path, tmp_path: pathlib.Path) -> None:
+    run("site", copy, "--into", tmp_path / "site")
+    found = json.loads((tmp_path / "site/desk.json").read_text())
+    with open_copy(copy) as opened:
+        assert [it[0] for it in found["senders"]] == [it.sender for it in opened.lines()]
+        assert found["reporters"] == sorted({it for it, in opened.rows("SELECT reporter FROM returns")})
+    assert dict(found["senders"])[quarter.ALPHA] == quarter.NAMES[quarter.ALPHA]
