@@ -21,6 +21,7 @@ from society_office.decisions import Decisions
 from society_office.errors import OfficeError
 from society_office.journal import MOMENT, Decided, sum_of, who
 from society_office.orders import free_pool
+from society_office.own_returns import is_numbered_down
 from society_office.program import Answer
 from society_office.return_names import are_listed, names_text
 
@@ -30,8 +31,6 @@ STATE = re.compile(r"(closing|closed|gave up) pool ([1-9][0-9]{0,4}):.*", re.ASC
 ASKED = "asked for a pool: "
 # What the journal has where the office asks for two persons, and for one again.
 PERSONS = {"a pool is closed by one person": 1, "a pool is closed by two persons": 2}
-# The office's own returns, whose number is that of the pool that pays them.
-OWN = re.compile(r"(?:DUE|LATE)[0-9A-F]{0,8}|AMEND[1-9][0-9]{0,4}", re.ASCII)
 # What an office answers to what it will never take.
 REFUSED = (400, 404, 409, 413, 422)
 
@@ -57,7 +56,7 @@ class Plan:
     @property
     def own(self) -> list[tuple[str, int]]:
         """The office's own returns in it."""
-        return [(reporter, number) for reporter, number in self.order["returns"] if OWN.fullmatch(reporter) and number == self.pool]
+        return [(reporter, number) for reporter, number in self.order["returns"] if is_numbered_down(reporter) and number == self.pool]
 
 
 def kept(pool: int) -> str:
@@ -88,7 +87,7 @@ def unfinished(journal: Sequence[Decided]) -> dict[int, Decided]:
 
 def own_number(order: dict[str, Any]) -> int | None:
     """The number that an order of the office itself has: that of its own return."""
-    found = {int(number) for reporter, number in order["returns"] if OWN.fullmatch(reporter)}
+    found = {int(number) for reporter, number in order["returns"] if is_numbered_down(reporter)}
     return found.pop() if len(found) == 1 else None
 
 

@@ -69,7 +69,7 @@ def close(
                 closing.refuse_void(it, known)
                 need_copy_of_now(opened, office, it)
             with with_own(find_program(program), opened, it, order.parent) as whole:
-                with rehearsal.rehearse(find_program(program), whole, order, it.pool, known.void) as found:
+                with rehearsal.rehearse(find_program(program), whole, order, it.pool, known) as found:
                     carry_out(known, office, it, found, order, asked)
     finally:
         office.close()

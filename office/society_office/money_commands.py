@@ -5,8 +5,8 @@ import sys
 
 import click
 
-from society_office import correct_output, correcting, order_output, orders, parties, rehearsal, rehearsal_output, settling_output
-from society_office.command_words import COPY_HELP, PATH, POOL, PROGRAM_HELP, WRONG, Command, decided, fail, looked_up, noted
+from society_office import order_output, orders, rehearsal, rehearsal_output
+from society_office.command_words import COPY_HELP, PATH, POOL, PROGRAM_HELP, WRONG, Command, decided, fail, noted
 from society_office.command_words import with_decisions
 from society_office.copy import Copy
 from society_office.errors import OfficeError
@@ -15,40 +15,31 @@ from society_office.pages import write_text
 from society_office.program import find_program, open_whole
 from society_office.return_names import entries
 from society_office.terminal import console, say
-from society_office.unclaimed import Unclaimed, as_json
+from society_office.unclaimed import BOOKING, MAY_BE_OWNED, Unclaimed, as_json
 
 
 @click.command(cls=Command, epilog=COPY_HELP, short_help="Why money went to nobody.")
 @click.argument("copy", type=PATH)
 @click.option("--pool", type=POOL, metavar="POOL", help="Only this pool.")
 @click.option("--format", "form", type=click.Choice(["table", "json"]), default="table", help="How it is written.")
-@click.option("--settle", type=PATH, metavar="FOLDER", help="Writes returns and orders that pay what has one owner now.")
-@with_decisions
-def unclaimed(copy: pathlib.Path, pool: int | None, form: str, settle: pathlib.Path | None, folder: pathlib.Path | None) -> None:
+@click.option("--settle", hidden=True, expose_value=False, callback=lambda *it: refuse_old(*it))
+def unclaimed(copy: pathlib.Path, pool: int | None, form: str) -> None:
     """Why money went to nobody, by cause, and what can be done about it.
 
-    Works and titles are those at the pool's cut. Without --pool, what was a conflict, or not in the cut, and has one owner now is listed
-    at the end, less what earlier rounds of --settle have returned. While a return of such a round waits for its pool, --settle is refused.
+    Works and titles are those at the pool's cut. What was a conflict, or not in the cut, and has one owner now is due to its holders:
+    `dues` tells what of it was not paid yet.
     """
-    if settle and (pool is not None or form == "json"):
-        raise click.UsageError("--settle is over all pools, and prints a table")
     with open_whole(copy) as opened:
+        noted(opened)
         if pool is not None:
             refuse_unknown(opened, pool)
-        known = decided(noted(opened), folder) if settle else looked_up(noted(opened), folder)
-        barred = known.void if known else []
-        if settle:
-            settling_output.refuse_second_round(opened, barred)
         found = Unclaimed(opened).items(pool)
         if form == "json":
             say(as_json(found))
             return
-        if settle:
-            # (before anything is printed, since that may be cut off, as by head)
-            settling_output.write_rounds(opened, found, barred, settle)
         order_output.show_unclaimed(console(), found, opened.pools(), "`--format json` has every one of them")
-        if pool is None:
-            settling_output.show_later(console(), opened, found, barred)
+        if pool is None and any(it.cause in MAY_BE_OWNED for it in found):
+            say(f"\n{BOOKING}")
 
 
 def refuse_unknown(copy: Copy, pool: int) -> None:
@@ -107,7 +98,7 @@ def propose(
 @click.command(cls=Command, epilog=COPY_HELP, short_help="What an order would do, before it is sent.")
 @click.argument("copy", type=PATH)
 @click.argument("order", type=PATH)
-@click.option("--pool", type=POOL, metavar="POOL", help="The pool's number (default: the next free one).")
+@click.option("--pool", type=POOL, metavar="POOL", help="The pool's number (default: the next free one, or that of an own return).")
 @with_decisions
 @click.option("--format", "form", type=click.Choice(["table", "csv", "json"]), default="table", help="How it is written.")
 @click.option("--program", metavar="FILE", help=PROGRAM_HELP)
@@ -117,12 +108,13 @@ def rehearse(
     """What an order would credit and what would stay unclaimed, before it is sent.
 
     The program itself serves a throw-away copy and closes the pool there. What is odd is noted: plays that are named or were paid before,
-    void returns, a return with ten times the points of its station's others or a tenth, files and returns that are left out. A CSV has what
-    each account is credited. The status is 1 where the program refuses the order.
+    void returns, a return with ten times the points of its station's others or a tenth, files and returns that are left out; and what it
+    pays beyond what is due, to whom, and what is due that it leaves. A CSV has what each account is credited. The status is 1 where the
+    program refuses the order.
     """
     with open_whole(copy) as opened:
         known = decided(noted(opened), folder)
-        with rehearsal.rehearse(find_program(program), opened, order, pool, known.void) as found:
+        with rehearsal.rehearse(find_program(program), opened, order, pool, known) as found:
             if form == "json":
                 say(rehearsal_output.as_json(found))
             elif form == "csv" and found.copy is not None:
@@ -135,52 +127,19 @@ def rehearse(
                 sys.exit(WRONG)
 
 
-@click.command(cls=Command, epilog=COPY_HELP, short_help="What a mistaken order paid wrong, and how to put it right.")
-@click.argument("copy", type=PATH)
-@click.argument("pool", type=POOL)
-@click.option("--amount", type=click.IntRange(0, orders.LARGEST_AMOUNT), help="The units as they should have been.")
-@click.option("--kind", type=click.Choice(["PR", "MR"]), help="The right that it should have paid.")
-@click.option("--cut", multiple=True, metavar="SENDER=N", help="How far a sender's files should have counted (0: not at all), or `now`.")
-@click.option("--returns", multiple=True, metavar="WORDS", help="All that it should have paid, as for propose. Can be given again.")
-@with_decisions
-@click.option("--format", "form", type=click.Choice(["table", "csv", "json"]), default="table", help="How it is written.")
-@click.option(
-    "--all-missing", is_flag=True, help="Credit what is missing also where others get too much by it, but less than those that lack it."
-)
-@click.option("--into", type=PATH, metavar="FOLDER", help="Writes the returns, the order and the list of what is settled outside.")
-@click.option("--program", metavar="FILE", help=PROGRAM_HELP)
-def correct(
-    copy: pathlib.Path,
-    pool: int,
-    amount: int | None,
-    kind: str | None,
-    cut: tuple[str, ...],
-    returns: tuple[str, ...],
-    folder: pathlib.Path | None,
-    form: str,
-    into: pathlib.Path | None,
-    program: str | None,
-    all_missing: bool,
-) -> None:
-    """What a mistaken order paid wrong, and how to put it right.
+def refuse_old(_: click.Context, option: click.Parameter, value: object) -> None:
+    """A UsageError that names the command which took the place of --settle."""
+    if value is not None:
+        raise click.UsageError("--settle is no more: `society-office dues COPY --next FOLDER` writes the next order of what is lacking")
 
-    What is not given is as it was, but for void returns, which are left out. The program closes the order as it should have been over a
-    throw-away copy. By account: what is right, what was paid, the difference, and what a further pool credits of what is missing; no
-    holder gets more by it than it lacks. What is too much, or still missing then, is settled outside of the office.
-    """
-    changes = correcting.Changes(amount, kind, cut, entries(returns, "--returns"), all_missing)
-    with open_whole(copy) as opened:
-        refuse_unknown(noted(opened), pool)
-        names, known = parties.names_of(parties.parties(opened)), decided(opened, folder)
-        found = correcting.correct(find_program(program), opened, pool, changes, known.void)
-    if into:
-        correct_output.write(into, found, names)
-    if form == "csv":
-        sys.stdout.write(correct_output.as_csv(found.lines, names))
-    elif form == "json":
-        say(correct_output.as_json(found, names))
-    else:
-        correct_output.show(console(), found, names, known.pools)
+
+@click.command(cls=Command, hidden=True, context_settings={"ignore_unknown_options": True, "allow_extra_args": True})
+def correct() -> None:
+    """Says which commands took its place."""
+    raise OfficeError(
+        "`correct` is no more: `society-office amend COPY POOL` says how an order should have been, and `society-office dues COPY` "
+        "who lacks what by it"
+    )
 
 
 COMMANDS = (unclaimed, propose, rehearse, correct)

@@ -1,14 +1,12 @@
 """What is proposed and unclaimed, as it is printed."""
 
 import heapq
-import pathlib
-from collections.abc import Iterable
 
 from rich.console import Console
 
 from society_office.numbering import counted
 from society_office.orders import Proposal
-from society_office.pages import older, percent
+from society_office.pages import percent
 from society_office.return_names import names_text
 from society_office.terminal import say, table
 from society_office.unclaimed import CURES, Cause, Item, by_cause
@@ -25,14 +23,6 @@ def tell_proposal(it: Proposal) -> None:
         say(f"left out: {names_text(left.returns)}, {left.why}", error=True)
     for remark in it.remarks:
         say(f"note: {remark}", error=True)
-
-
-def tell_older(folder: pathlib.Path, patterns: Iterable[str], written: Iterable[str]) -> None:
-    """Says what stands in a folder of an earlier run, which is not to be sent or settled again."""
-    names = {*written}
-    if left := sorted(name for pattern in patterns for name in older(folder, pattern, names)):
-        words = ("is", "it") if len(left) == 1 else ("are", "them")
-        say(f"{', '.join(left)} in {folder} {words[0]} of an earlier run: what is written now goes without {words[1]}", error=True)
 
 
 def claimants_text(it: Item) -> str:

@@ -2,13 +2,14 @@
 
 import dataclasses
 import json
-from collections.abc import Callable, Container, Iterator, Mapping, Sequence
+from collections.abc import Callable, Iterator, Mapping, Sequence
 
 from society_office.copy import Copy
 from society_office.errors import OfficeError
 from society_office.numbering import as_json, as_sent, rank_of
 from society_office.return_names import LAST_NUMBER, Entry, Return, are_listed, names_text, unmatched
-from society_office.stored_returns import Stored, corrections, far_ones, same_plays, stored_returns
+from society_office.own_returns import is_numbered_down
+from society_office.stored_returns import Stored, far_ones, same_plays, stored_returns
 
 MOST_SENDERS, MOST_RETURNS = 200, 1_000
 LARGEST_AMOUNT = 1_000_000_000_000
@@ -101,9 +102,11 @@ def changed_cut(copy: Copy, cut: Sequence[tuple[str, int]], words: Sequence[str]
 
 
 def free_pool(copy: Copy) -> int:
-    """The number behind the last pool, or the least that is free where the last has the greatest number; an OfficeError where none is."""
-    used = copy.pools()
-    if (following := max(used, default=0) + 1) <= LAST_POOL:
+    """The number behind the last pool, the office's own aside, whose numbers go down; or the least that is free where that has the greatest
+    number. An OfficeError where none is."""
+    own = copy.rows("SELECT DISTINCT pool, reporter FROM pool_returns WHERE number = pool")
+    used, down = copy.pools(), {pool for pool, reporter in own if is_numbered_down(reporter)}
+    if (following := max(used.keys() - down, default=0) + 1) <= LAST_POOL and following not in used:
         return following
     if (least := next((it for it in range(1, LAST_POOL + 1) if it not in used), None)) is None:
         raise OfficeError(f"all pool numbers up to {LAST_POOL:,} are used")
@@ -152,22 +155,16 @@ def refuse_wrong(wanted: Sequence[Entry], stored: Mapping[Return, Stored], why: 
         raise OfficeError("; ".join(wrong))
 
 
-def void_remarks(
-    void: Sequence[Entry], stored: Mapping[Return, Stored], corrected: Container[int], amounts: Mapping[int, int]
-) -> Iterator[str]:
-    """What is said of void returns: entries that name none that is stored, and those that a pool has paid and nothing has corrected."""
+def void_remarks(void: Sequence[Entry], stored: Mapping[Return, Stored]) -> Iterator[str]:
+    """What is said of void returns: entries that name none that is stored, and those that a pool has paid."""
     for one in unmatched(void, stored):
         yield f"{one.told}: no such return is stored"
     paid: dict[int, list[Return]] = {}
     for it in stored.values():
-        if it.is_play and it.pool and it.pool not in corrected and are_listed(void, it.key):
+        if it.is_play and it.pool and are_listed(void, it.key):
             paid.setdefault(it.pool, []).append(it.key)
     for pool, listed in sorted(paid.items()):
-        them = names_text(listed)
-        if amounts[pool]:
-            yield f"pool {pool} has paid what is void: {them}; `society-office correct` tells how to put it right"
-        else:
-            yield f"{them} is void and stands in pool {pool} of 0 units: where a correction has paid it, correct that pool again"
+        yield f"pool {pool} has paid what is void: {names_text(listed)}; `society-office dues` tells who has too much by it"
 
 
 def sort_returns(
@@ -213,7 +210,7 @@ def propose(copy: Copy, amount: int, kind: str, wanted: Wanted, void: Sequence[E
         )
         named = named[:MOST_RETURNS]
     remarks += far_ones(named, stored, void)
-    remarks += void_remarks(void, stored, corrections(stored, void), copy.pools())
+    remarks += void_remarks(void, stored)
     remarks += [f"{it.sender} has files that wait, which this order does not count" for it in copy.lines() if it.waiting]
     return Proposal(Order(kind, amount, cut, [it.key for it in named]), left, remarks, free_pool(copy))
 

@@ -184,11 +184,6 @@ def new_folder(target: pathlib.Path, is_own: Callable[[str], bool]) -> Iterator[
             shutil.rmtree(left, ignore_errors=True)
 
 
-def older(folder: pathlib.Path, pattern: str, written: Iterable[str]) -> list[str]:
-    """What an earlier run has left in a folder under names such as these, and this one has not written."""
-    return sorted({it.name for it in folder.glob(pattern)} - {*written})
-
-
 def write_all(folder: pathlib.Path, files: Iterable[tuple[str, str]]) -> int:
     """Writes texts under their names into a folder; answers how many."""
     count = 0

@@ -10,20 +10,26 @@ from collections.abc import Iterator, Mapping, Sequence
 from typing import Any
 
 from society_office import faults
-from society_office.claims import Claims
+from society_office.amendments import orders_as_due
 from society_office.copy import Copy, open_copy
-from society_office.follow_ups import PAID, corrected_by
-from society_office.numbering import as_sent, rank_of
-from society_office.orders import free_pool
+from society_office.credit import asking
+from society_office.decisions import Decisions
+from society_office.dues import Dues
+from society_office.errors import OfficeError
+from society_office.numbering import as_sent, counted, rank_of
+from society_office.orders import LAST_POOL, free_pool
+from society_office.own_returns import is_numbered_down
 from society_office.plays import BOM
+from society_office.pool_kinds import Book
 from society_office.program import Answer, trial_of
-from society_office.records import text
+from society_office.records import UNCLAIMED, text
 from society_office.return_names import Entry, Return, are_listed, names_text
-from society_office.settling import is_open
-from society_office.stored_returns import Stored, are_of_one_copy, far_ones, same_plays, stored_returns
+from society_office.stored_returns import Stored, far_ones, same_plays, stored_returns
 
 # Characters that are shown of what is no JSON.
 MOST_SHOWN = 20
+# Accounts of which it is told what they would be paid beyond what is due.
+MOST_TOLD = 20
 # A pool that was closed by this order before, and one that is closed by it now.
 REPEATED, NEW = 200, 201
 
@@ -46,11 +52,11 @@ class Rehearsal:
 
 
 @contextlib.contextmanager
-def rehearse(program: str, copy: Copy, file: pathlib.Path, pool: int | None, void: Sequence[Entry]) -> Iterator[Rehearsal]:
+def rehearse(program: str, copy: Copy, file: pathlib.Path, pool: int | None, known: Decisions) -> Iterator[Rehearsal]:
     """Sends an order to a throw-away office over the copy; what it made of it can be read while the `with` lasts."""
     copy.need_derived()
     order = file.read_bytes()
-    number = pool or free_pool(copy)
+    number = pool or own_number(order) or free_pool(copy)
     with trial_of(program, copy) as trial:
         answer = trial.office.ask("PUT", f"/v1/pools/{number}", order)
         trial.end()
@@ -61,10 +67,10 @@ def rehearse(program: str, copy: Copy, file: pathlib.Path, pool: int | None, voi
             given = json.loads(order)
             stored = before(stored_returns(copy), number)
             named = [stored[reporter, which] for reporter, which in sorted(given["returns"])]
-            notes = [*notes_on_keys(order), *notes_on_returns(then, number, given, named, stored, void)]
+            notes = [*notes_on_keys(order), *notes_on_returns(then, given, named, stored, known.void)]
             if not is_own(named):
-                notes += [*notes_on_left(named, stored, void), *notes_on_cut(copy, given["cut"])]
-            notes += notes_on_paid(file.with_name(f"{file.stem}{PAID}"), stored)
+                notes += [*notes_on_left(named, stored, known.void), *notes_on_cut(copy, given["cut"])]
+            notes += notes_on_dues(then, number, known, program)
             yield Rehearsal(number, answer, "", then, named, notes)
 
 
@@ -82,14 +88,46 @@ def form_hint(order: bytes) -> str:
     return ""
 
 
-def notes_on_paid(file: pathlib.Path, stored: Mapping[Return, Stored]) -> Iterator[str]:
-    """The returns of an order of no units that `correct` has written beside this one, where no pool has paid them yet."""
+def own_number(order: bytes) -> int | None:
+    """The number of the pool that an order of the office itself closes: that of its own returns."""
     try:
-        named = [(str(reporter), int(number)) for reporter, number in json.loads(file.read_bytes())["returns"]]
-    except (OSError, ValueError, TypeError, KeyError):
+        numbers = {int(number) for reporter, number in json.loads(order)["returns"] if is_numbered_down(str(reporter))}
+    except (ValueError, TypeError, KeyError, RecursionError):
+        return None
+    return next((it for it in numbers if len(numbers) == 1 and 1 <= it <= LAST_POOL), None)
+
+
+def notes_on_dues(then: Copy, pool: int, known: Decisions, program: str) -> Iterator[str]:
+    """What a pool pays beyond what is due, of whom, and what is due that it leaves."""
+    book = Book(then)
+    try:
+        dues = Dues(then, book, orders_as_due(book, known.amendments, known.void), asking(program, then))
+    except OfficeError as error:
+        yield f"what is due can't be told: {error}"
         return
-    if left := [it for it in named if it in stored and not stored[it].pool]:
-        yield f"close a pool by {file.name} first: {names_text(left)} is still to be paid, and another pool may pay it again"
+    passed, need = beyond_dues(dues, pool), dues.need_of_all()
+    for account, units in sorted(passed.items(), key=lambda it: (-it[1], it[0]))[:MOST_TOLD]:
+        yield f"{units:,} units to {account} are beyond what is due"
+    if len(passed) > MOST_TOLD:
+        yield f"and so are units to {counted(len(passed) - MOST_TOLD, 'more account')}, {sum(passed.values()):,} units in all"
+    if not passed and not book.is_play(pool) and then.pools()[pool]:
+        yield "all of it is due"
+    if left := [units for account, units in need.items() if units > 0 and account != UNCLAIMED]:
+        yield f"{sum(left):,} units more are due to {counted(len(left), 'account')}: `society-office dues --next` writes their order"
+
+
+def beyond_dues(dues: Dues, pool: int) -> dict[str, int]:
+    """What a pool that is closed pays to accounts beyond what is due: of a recording, or in all."""
+    own, need, found, credited = dues.by_pool[pool], dues.need_of_all(), collections.Counter[str](), collections.Counter[str]()
+    is_play = dues.book.is_play(pool)
+    for key, units in own.items():
+        if key[2] != UNCLAIMED and units < 0:
+            credited[key[2]] -= units
+            found[key[2]] += -units if is_play else min(-units, max(0, -dues.difference[key]))
+    if not is_play:
+        for account, units in credited.items():
+            found[account] = max(found[account], min(units, max(0, -need[account])))
+    return dict(+found)
 
 
 def notes_on_keys(order: bytes) -> Iterator[str]:
@@ -107,7 +145,7 @@ def before(stored: Mapping[Return, Stored], pool: int) -> dict[Return, Stored]:
 
 
 def notes_on_returns(
-    then: Copy, pool: int, order: Mapping[str, Any], named: Sequence[Stored], stored: Mapping[Return, Stored], void: Sequence[Entry]
+    then: Copy, order: Mapping[str, Any], named: Sequence[Stored], stored: Mapping[Return, Stored], void: Sequence[Entry]
 ) -> Iterator[str]:
     """What is odd about the returns that an order names."""
     plays, own = [it for it in named if it.is_play], [it for it in named if not it.is_play]
@@ -119,27 +157,8 @@ def notes_on_returns(
         both = "" if one.right in ("", order.get("kind", "PR")) else ": right only where it is to be paid in both"
         yield f"{one.it.name} has {one.why}{both or ': the plays would be paid twice'}"
     yield from far_ones(plays, stored, void)
-    if own:
-        yield from notes_on_own(then, pool, order["amount"], plays, own)
-        if others := rivals(own, stored, then.rights(), order.get("kind", "PR"), void):
-            yield f"{names_text(others)} was written over the same copy and may pay the same units: of the two only one may be paid"
-
-
-def rivals(
-    own: Sequence[Stored], stored: Mapping[Return, Stored], rights: Mapping[int, str], kind: str, void: Sequence[Entry]
-) -> list[Return]:
-    """The returns that may pay the units that these pay, in an order of this kind: neither knew of the other when it was written."""
-
-    def is_rival(it: Stored, one: Stored) -> bool:
-        return are_of_one_copy(it, one, stored) and right_of(it, rights) in ("", right_of(one, rights, kind))
-
-    others = (it for it in stored.values() if it.points and (it.pool or not are_listed(void, it.key)))
-    return [it.key for it in others if any(is_rival(it, one) for one in own)]
-
-
-def right_of(it: Stored, rights: Mapping[int, str], kind: str = "") -> str:
-    """The right of the pools whose money a return of the office itself pays; of a round that no pool has paid, the one that is given."""
-    return rights.get(corrected_by(it.reporter) or it.pool, kind)
+    if own and plays and order["amount"]:
+        yield f"{names_text(it.key for it in own)} is of the office itself, and has to be paid by an order of its own, without plays"
 
 
 def is_own(named: Sequence[Stored]) -> bool:
@@ -150,31 +169,9 @@ def is_own(named: Sequence[Stored]) -> bool:
 def notes_on_left(named: Sequence[Stored], stored: Mapping[Return, Stored], void: Sequence[Entry]) -> Iterator[str]:
     """What no pool has paid and an order does not name."""
     keys = {it.key for it in named}
-    left = [it for it in stored.values() if not it.pool and it.key not in keys and not are_listed(void, it.key)]
-    if others := [it.key for it in left if it.is_play]:
-        yield f"not named, and paid by no pool: {names_text(others)}"
-    if waiting := [it.key for it in left if is_open(it, void)]:
-        yield f"a pool of its own is to pay {names_text(waiting)}: close that first, and rehearse this order again"
-
-
-def notes_on_own(then: Copy, pool: int, amount: int, plays: Sequence[Stored], own: Sequence[Stored]) -> Iterator[str]:
-    """Whether returns of the office itself get just the units that they ask for."""
-    asked = sum(it.points for it in own)
-    if plays:
-        yield f"{names_text(it.key for it in own)} is of the office itself, and has to be paid by an order of its own, without plays"
-    elif amount != asked:
-        yield f"{names_text(it.key for it in own)} asks for {asked:,} units, and the amount is {amount:,}: no recording gets what it lacks"
-    else:
-        yield f"each recording gets just the units that {names_text(it.key for it in own)} asks for, {asked:,} in all"
-        if lost := unowned(then, pool):
-            yield f"{lost:,} units of it go to recordings that no single work of the cut names, so to UNCLAIMED"
-
-
-def unowned(then: Copy, pool: int) -> int:
-    """What a pool credits to nobody of recordings that no single work of its cut names."""
-    units = then.listed("SELECT isrc, sum(units) FROM credits WHERE pool = ? GROUP BY isrc", pool)
-    claims, cut = Claims(then, (isrc for isrc, _ in units)), then.cuts()[pool]
-    return sum(count for isrc, count in units if claims.owner(isrc, cut) is None)
+    left = [it.key for it in stored.values() if it.is_play and not it.pool and it.key not in keys and not are_listed(void, it.key)]
+    if left:
+        yield f"not named, and paid by no pool: {names_text(left)}"
 
 
 def notes_on_cut(copy: Copy, cut: Sequence[tuple[str, int | str]]) -> Iterator[str]:

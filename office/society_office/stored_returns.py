@@ -6,7 +6,7 @@ import statistics
 from collections.abc import Iterable, Iterator, Mapping, Sequence
 
 from society_office.copy import Copy
-from society_office.follow_ups import SETTLED, corrected_by, is_follow_up
+from society_office.own_returns import is_own
 from society_office.plays import rows
 from society_office.return_names import Entry, Return, are_listed
 
@@ -40,7 +40,7 @@ class Stored:
     @property
     def is_play(self) -> bool:
         """Whether a station has reported it, and not the office itself."""
-        return not is_follow_up(self.reporter)
+        return not is_own(self.reporter)
 
 
 def content_of(listed: Sequence[tuple[str, int, int]]) -> bytes:
@@ -58,24 +58,6 @@ def stored_returns(copy: Copy) -> dict[Return, Stored]:
         key = (reporter, number)
         found[key] = Stored(reporter, number, len(listed), points, content_of(listed), paid.get(key, 0))
     return found
-
-
-def corrections(stored: Mapping[Return, Stored], void: Sequence[Entry]) -> dict[int, int]:
-    """The pools that were corrected, each with the number of the first return that does; a void one that no pool has paid does not."""
-    found: dict[int, int] = {}
-    for it in stored.values():
-        if (pool := corrected_by(it.reporter)) is not None and (it.pool or not are_listed(void, it.key)):
-            found[pool] = min(it.number, found.get(pool, it.number))
-    return found
-
-
-def are_of_one_copy(it: Stored, other: Stored, stored: Mapping[Return, Stored]) -> bool:
-    """Whether of two returns one settles and one corrects, and they may have been written over one copy: from the lower of their numbers
-    on both reporters have returns in a row, as what is written together is numbered."""
-    if it.is_play or other.is_play or (it.reporter == SETTLED) == (other.reporter == SETTLED):
-        return False
-    first = min(it.number, other.number)
-    return all((one.reporter, number) in stored for one in (it, other) for number in range(first, one.number))
 
 
 @dataclasses.dataclass(frozen=True)

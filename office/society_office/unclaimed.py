@@ -29,10 +29,12 @@ class Cause(enum.Enum):
     NO_PLAYS = "no plays"
 
 
+# What may have one owner later: no work of the cut named it, or several did, so that all of it went to nobody.
+MAY_BE_OWNED = (Cause.CONFLICT, Cause.LATE)
 CURES = {
     Cause.SHARE: "The publisher sends a REV whose SPT and SWT rows of the world (2136) or the office's territory come to 10000 in it.",
-    Cause.CONFLICT: "The publishers settle it; the one that gives way sends a REV without the REC. Then a further pool can pay it.",
-    Cause.LATE: "Nothing is wrong with the work now: a pool whose cut counts its file pays the next plays.",
+    Cause.CONFLICT: "The publishers settle it; the one that gives way sends a REV without the REC. Then `society-office dues` has it.",
+    Cause.LATE: "Nothing is wrong with the work now: `society-office dues` has it as due to its holders.",
     Cause.REJECTED: "The publisher cures the fault and sends the work again under its next number.",
     Cause.WAITING: "The publisher sends what its file waits for.",
     Cause.NOBODY: "Ask the publisher of the recording to register the work, or the station whether the number is right.",
@@ -40,10 +42,10 @@ CURES = {
 }
 # What stands with every list of money of conflicts, and of works that came later.
 BOOKING = (
-    "A closed pool stays as it is: its units stay on UNCLAIMED. What a later pool credits for them stands in the books once more, "
-    "so write the settled units off UNCLAIMED outside of the office. Elsewhere societies hold the money of a conflict on an account "
-    "of the work until the claimants agree, and pay it then as an adjustment with the next distribution. In the European Union what "
-    "could not be distributed three years after the end of the financial year in which it was collected is non-distributable, and the "
+    "A closed pool stays as it is: its units stay on UNCLAIMED. What a make-up credits for them stands in the books once more, "
+    "so write off UNCLAIMED outside of the office what `society-office dues` says. Elsewhere societies hold the money of a conflict on an "
+    "account of the work until the claimants agree, and pay it then as an adjustment with the next distribution. In the European Union "
+    "what could not be distributed three years after the end of the financial year in which it was collected is non-distributable, and the "
     "members' meeting decides on its use (Directive 2014/26/EU, article 13)."
 )
 

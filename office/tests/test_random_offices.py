@@ -10,8 +10,7 @@ import random_office
 import reckoning
 from answers import rows_of
 from conftest import further, made
-from corrections import rows_in, sums
-from office_value import Key, Office, Pool, Return, Step
+from office_value import Key, Office, Pool
 from society_office.copy import open_copy
 from society_office.statements import folder_of
 from test_statements import run
@@ -96,7 +95,7 @@ def check_order(copy: pathlib.Path, office: Office, program: str, kind: str) -> 
     then = office.with_steps(Pool(number, kind, 98_765, office.fronts(), returns))
     said = json.loads(run("rehearse", copy, target, "--program", program, "--format", "json"))
     assert (said["pool"], said["status"], said["right"], said["amount"]) == (number, 201, kind, 98_765)
-    assert {it["account"]: it["units"] for it in said["accounts"]} == sums(reckoning.credits(then, number))
+    assert {it["account"]: it["units"] for it in said["accounts"]} == reckoning.sums(reckoning.credits(then, number))
     assert {it["isrc"]: it["units"] for it in said["unclaimed"]} == {isrc: it[1] for isrc, it in reckoning.unclaimed(then, number).items()}
     points = {it: sum(plays * seconds for _, plays, seconds in office.returns[it]) for it in returns}
     assert {(it["reporter"], it["number"]): it["points"] for it in said["returns"]} == points
@@ -109,40 +108,41 @@ def paid_or(office: Office, returns: list[Key]) -> set[Key]:
     return {*returns, *(it for pool in office.pools.values() for it in pool.returns)}
 
 
-def settled_once(copy: pathlib.Path, office: Office, program: str, first: int) -> tuple[pathlib.Path, Office]:
-    """The office after a round, whose returns begin with a number; the same one where nothing was to be settled."""
-    folder = copy.with_name(f"settled{first}")
-    run("unclaimed", copy, "--settle", folder)
-    returns, pools = list[Step](), list[Step]()
-    for number, file in enumerate(sorted(folder.glob("*.json"), reverse=True), first):
-        order = json.loads(file.read_text())
-        assert order["returns"] == [["SETTLED", number]] and order.get("kind", "PR") == file.stem
-        returns.append(Return("SETTLED", number, rows_in(file.with_suffix(".csv"))))
-        pools.append(Pool(max(office.pools) + number + 1 - first, file.stem, order["amount"], office.fronts(), [("SETTLED", number)]))
-    if not returns:
-        return copy, office
-    stored, closed = office.with_steps(*returns), office.with_steps(*returns, *pools)
-    then = further(program, copy, [stored.request(it) for it in returns], copy.with_name(f"stored{first}.db"))
-    assert "SETTLED/" in run("unclaimed", then, "--settle", folder, status=1)
-    assert "SETTLED" not in run("propose", then, "--amount", 5, "--no-returns", "--no-files")
-    then = further(program, then, [closed.request(it) for it in pools], copy.with_name(f"closed{first}.db"))
-    check_credits(then, closed)
-    return then, closed
+def accounts_of(copy: pathlib.Path, program: str) -> dict[str, tuple[int, int]]:
+    """What is due and was paid by account."""
+    listed = json.loads(run("dues", copy, "--program", program, "--format", "json"))
+    return {it["account"]: (it["due"], it["paid"]) for it in listed}
 
 
-def check_settling(copy: pathlib.Path, office: Office, program: str) -> None:
-    """Rounds pay what has one owner now, and just once; of more than an order may credit the rest is paid by the next round."""
-    wanted, first, before = reckoning.settleable(office), 1, set(office.pools)
-    while True:
-        copy, then = settled_once(copy, office, program, first)
-        if then is office:
+def check_dues(copy: pathlib.Path, office: Office, program: str) -> None:
+    """What is due and was paid; of each account by recording."""
+    due, wanted = reckoning.due(office), Counter[str]()
+    for (_, _, account), units in due.items():
+        wanted[account] += units
+    paid = reckoning.balances(office)
+    assert accounts_of(copy, program) == {it: (wanted[it], paid.get(it, 0)) for it in {*wanted, *paid}}
+    account = max(sorted(wanted), key=lambda it: wanted[it] != paid.get(it, 0))
+    rows = rows_of(run("dues", copy, "--account", account, "--program", program, "--format", "csv"))
+    assert {(it["right"], it["isrc"]): int(it["due"]) for it in rows if int(it["due"])} == {
+        key[:2]: units for key, units in due.items() if key[2] == account and units
+    }
+
+
+def check_make_ups(copy: pathlib.Path, program: str) -> None:
+    """What is lacking is paid order by order: nobody gets more than is due, and it ends."""
+    before = accounts_of(copy, program)
+    for count in range(20):
+        folder = copy.with_name(f"next{count}")
+        run("dues", copy, "--next", folder, "--program", program)
+        if not folder.exists():
             break
-        first, office = first + len(then.pools) - len(office.pools), then
-    credited: dict[str, Counter[str]] = {}
-    for pool in set(office.pools) - before:
-        for isrc, _, units in reckoning.credits(office, pool):
-            credited.setdefault(office.pools[pool].right, Counter())[isrc] += units
-    assert credited == wanted
+        [order], [text] = folder.glob("*.json"), folder.glob("*.csv")
+        requests = [(f"/returns/{text.stem.replace('-', '/')}", text.read_bytes()), (f"/pools/{order.stem}", order.read_bytes())]
+        copy = further(program, copy, requests, copy.with_name(f"then{count}.db"))
+    else:
+        raise AssertionError("it does not end")
+    for account, (due, paid) in accounts_of(copy, program).items():
+        assert account == reckoning.NOBODY or (due == before[account][0] and paid <= max(due, before[account][1])), account
 
 
 @pytest.mark.parametrize("number", range(COUNT))
@@ -154,7 +154,9 @@ def test_a_random_office(number: int, folder: pathlib.Path, program: str) -> Non
     check_parties(copy, office)
     check_unclaimed(copy, office)
     check_order(copy, office, program, "PR" if number % 2 else "MR")
-    check_settling(copy, office, program)
+    check_dues(copy, office, program)
+    if number % 4 == 0:
+        check_make_ups(copy, program)
     check_answers(copy, office, folder / "site", number)
 
 

@@ -4,14 +4,12 @@ import codecs
 import json
 import pathlib
 
-import cwr
 import pytest
 import quarter
 import reckoning
 from answers import rows_of
 from conftest import further
-from corrections import sums
-from office_value import File, Pool, Return, order_body
+from office_value import Pool, Return, order_body
 from society_office import rehearsal_output
 from society_office.copy import open_copy
 from society_office.orders import Wanted, propose
@@ -162,7 +160,7 @@ def test_its_forms(office: pathlib.Path, program: str) -> None:
     (office.parent / "order.json").write_bytes(order_body(named))
     words = ["rehearse", office, office.parent / "order.json", "--program", program]
     rows = rows_of(run(*words, "--format", "csv"))
-    assert {it["account"]: int(it["units"]) for it in rows} == sums(reckoning.credits(then, 6)) and rows[0]["pool"] == "6"
+    assert {it["account"]: int(it["units"]) for it in rows} == reckoning.sums(reckoning.credits(then, 6)) and rows[0]["pool"] == "6"
     assert rows[0]["right"] == "PR" and {it["account"]: it["name"] for it in rows}["I00000000295"] == "ANNA WRITER"
     said = run(*words)
     assert "RADIO4/1-2" in said and "2,100" in said and "pool 6 would be closed with 1,000 units of the PR" in said
@@ -183,45 +181,24 @@ def test_of_many_returns_all_of_a_station_stand_in_one_row(monkeypatch: pytest.M
     assert list(rehearsal_output.return_rows(returns)) == sums
 
 
-def test_returns_of_the_office_itself(office: pathlib.Path, program: str, tmp_path: pathlib.Path) -> None:
-    run("unclaimed", office, "--settle", tmp_path / "round")
-    body, text = (tmp_path / "round/PR.csv").read_bytes(), (tmp_path / "round/PR.json").read_text()
-    stored = further(program, office, [("/returns/SETTLED/1", body)], tmp_path / "stored.db")
-    units = json.loads(text)["amount"]
-    said = run("rehearse", stored, tmp_path / "round/PR.json", "--program", program)
-    assert f"note: each recording gets just the units that SETTLED/1 asks for, {units:,} in all" in said
-    assert "the cut" not in said and "not named" not in said
-    (tmp_path / "round/PR.json").write_text(text.replace(str(units), "5"))
-    assert "and the amount is 5: no recording gets" in run("rehearse", stored, tmp_path / "round/PR.json", "--program", program)
-    found = notes(stored, program, order(("SETTLED", 1), ("TV1", 1)))
-    assert any("has to be paid by an order of its own, without plays" in it for it in found)
-    assert any("a pool of its own is to pay SETTLED/1" in it for it in notes(stored, program, order(("TV1", 1))))
-    # (a work without a party, or whose parties have no number, names the recording all the same)
-    for number, parties in enumerate(([], [cwr.Party("SWR", "", "X", "", quarter.NONE, (cwr.Row(quarter.WHOLE),))]), 3):
-        file = File(quarter.EPSILON, number, f"transmissions/{number}", [quarter.rev("E4", "CAME LATE", "FREPS2600004", *parties)])
-        stored = further(program, stored, [quarter.OFFICE.request(file)], tmp_path / f"stored{number}.db")
-        then = Pool(6, "PR", units, {**quarter.LAST_CUT, quarter.EPSILON: number}, [("SETTLED", 1)])
-        assert not any("no single work of the cut names" in it for it in notes(stored, program, then))
-    found = notes(stored, program, Pool(6, "PR", units, {}, [("SETTLED", 1)]))
-    assert f"{units:,} units of it go to recordings that no single work of the cut names, so to UNCLAIMED" in found
-
-
-def test_a_round_and_a_correction_over_one_copy(office: pathlib.Path, program: str, tmp_path: pathlib.Path, decided: pathlib.Path) -> None:
-    run("unclaimed", office, "--settle", tmp_path / "round")
-    run("correct", office, 1, "--cut", "now", "--program", program, "--into", tmp_path / "correct")
-    bodies = {"SETTLED": tmp_path / "round/PR.csv", "CORRECTED1": tmp_path / "correct/CORRECTED1-1.csv"}
-    both = further(program, office, [(f"/returns/{it}/1", file.read_bytes()) for it, file in bodies.items()], tmp_path / "both.db")
-    for order, other in ((tmp_path / "correct/CORRECTED1.json", "SETTLED/1"), (tmp_path / "round/PR.json", "CORRECTED1/1")):
-        assert f"note: {other} was written over the same copy and may pay the same units" in run(
-            "rehearse", both, order, "--program", program
-        )
-    (decided / "void.txt").write_text("SETTLED\n")
-    assert "over the same copy" not in run("rehearse", both, tmp_path / "correct/CORRECTED1.json", "--program", program)
-    # One that a pool has paid may have paid them, void or not; one without a row pays none.
-    closed = further(program, both, [("/pools/6", (tmp_path / "correct/CORRECTED1.json").read_bytes())], tmp_path / "closed.db")
-    (decided / "void.txt").write_text("CORRECTED1\n")
-    assert "note: CORRECTED1/1 was written over the same copy" in run("rehearse", closed, tmp_path / "round/PR.json", "--program", program)
-    bodies = {"SETTLED": (tmp_path / "round/PR.csv").read_bytes(), "CORRECTED1": b"isrc,plays,seconds\n"}
-    empty = further(program, office, [(f"/returns/{it}/1", body) for it, body in bodies.items()], tmp_path / "empty.db")
-    (decided / "void.txt").write_text("")
-    assert "over the same copy" not in run("rehearse", empty, tmp_path / "round/PR.json", "--program", program)
+def test_what_is_due_by_an_order(office: pathlib.Path, program: str, tmp_path: pathlib.Path, decided: pathlib.Path) -> None:
+    run("dues", office, "--next", tmp_path / "next", "--program", program)
+    [text], [order_file] = (tmp_path / "next").glob("*.csv"), (tmp_path / "next").glob("*.json")
+    name, body = text.stem.replace("-", "/"), text.read_bytes()
+    stored = further(program, office, [(f"/returns/{name}", body)], tmp_path / "stored.db")
+    said = run("rehearse", stored, order_file, "--program", program)
+    assert "pool 99999 would be closed with" in said and "note: all of it is due\n" in said
+    assert "the cut" not in said and "not named" not in said and "beyond what is due" not in said
+    units = json.loads(order_file.read_text())["amount"]
+    more = json.loads(order_file.read_text()) | {"amount": units + 1_000}
+    (tmp_path / "more.json").write_text(json.dumps(more))
+    assert "are beyond what is due" in run("rehearse", stored, tmp_path / "more.json", "--program", program)
+    mixed = order((name.partition("/")[0], 99_999), ("TV1", 1))
+    assert any("has to be paid by an order of its own, without plays" in it for it in notes(stored, program, mixed))
+    # An order of plays is not looked at for what is due but for void returns, and tells what is due beside it.
+    found = notes(stored, program, order(("TV1", 1)))
+    assert any("units more are due to" in it for it in found) and not any("beyond" in it for it in found)
+    (decided / "void.txt").write_text("TV1/2\n")
+    assert any("are beyond what is due" in it for it in notes(stored, program, order(("TV1", 1), ("TV1", 2))))
+    (decided / "amendments.txt").write_text('99999 1 {"amount":1,"cut":[],"returns":[]}\n')
+    assert any(it.startswith("what is due can't be told: ") for it in notes(stored, program, order(("TV1", 1))))

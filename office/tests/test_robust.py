@@ -156,7 +156,7 @@ def test_pages_take_the_place_of_nothing_but_a_folder(copy: pathlib.Path, place:
 
 
 @pytest.mark.parametrize("place", [".", "", "/", "/.."])
-@pytest.mark.parametrize("words", ["statement {} I00000000199", "balances {}", "propose {} --amount 1", "unclaimed {}", "correct {} 1"])
+@pytest.mark.parametrize("words", ["statement {} I00000000199", "balances {}", "propose {} --amount 1", "unclaimed {}", "dues {}"])
 def test_a_folder_in_the_place_of_a_copy(tmp_path: pathlib.Path, monkeypatch: pytest.MonkeyPatch, words: str, place: str) -> None:
     monkeypatch.chdir(tmp_path)
     said = run(*(it.format(place) for it in words.split()), status=1)
@@ -241,7 +241,7 @@ def test_words_that_name_nothing(copy: pathlib.Path, words: list[object], status
     [
         (["propose", "--amount", 5, "--amount", 6], "--amount is given twice"),
         (["statement", "I00000000295", "--since", 2, "--since", 1], "--since is given twice"),
-        (["correct", 1, "--kind", "PR", "--kind", "MR"], "--kind is given twice"),
+        (["amend", 1, "--kind", "PR", "--kind", "MR"], "--kind is given twice"),
         (["statement", "--all", "--into", "all", "--format", "csv"], "--format and --output are of one statement"),
         (["statement", "--all", "--into", "all", "--output", "it.csv"], "--format and --output are of one statement"),
         (["statement", "I00000000295", "--pdf"], "--pdf belongs to --all"),
