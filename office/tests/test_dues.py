@@ -4,8 +4,11 @@ import json
 import pathlib
 
 import pytest
+from click.testing import CliRunner
 from desk import ANNA, BORIS, CLARA, HOUSE, OTHER, Desk, file, holder, work
 from office_value import Pool, Return
+from society_office import dues
+from society_office.cli import main
 
 A, B = "ATABC2600001", "ATABC2600002"
 # A pool of 1,000 over a recording that nobody has.
@@ -149,3 +152,114 @@ def test_an_amended_pool_whose_conflict_was_settled(program: str, tmp_path: path
     assert desk.balances() == {ANNA: 1_000, BORIS: 500}
     desk.amend(1, "--cut", "now")
     assert desk.settled() == [] and desk.balances() == {ANNA: 1_000, BORIS: 500}
+
+
+def test_a_book_with_rounds_and_corrections_of_before(program: str, tmp_path: pathlib.Path) -> None:
+    """SETTLED reads as LATE and CORRECTEDn as DUE: they have no due of their own, and what they credit is paid."""
+    desk = Desk(program, tmp_path, *PLAYED, of_a(), Return("RADIO1", 2, [(B, 1, 1)]), Pool(2, "PR", 300, {}, [("RADIO1", 2)]))
+    steps = [
+        Return("SETTLED", 1, [(A, 600, 1)]),
+        Pool(3, "PR", 600, {HOUSE: 1}, [("SETTLED", 1)]),
+        file(HOUSE, 2, work("W2", B, holder(BORIS, 10_000))),
+        Return("CORRECTED2", 2, [(B, 200, 1)]),
+        Pool(4, "PR", 200, {HOUSE: 2}, [("CORRECTED2", 2)]),
+    ]
+    desk.steps(*steps)
+    assert "pool 2 was corrected by CORRECTED2: say once by which order it is due" in desk.run("dues", status=1)
+    assert "with --was-corrected" in desk.run("amend", 2, "--amount", 250, status=1)
+    desk.amend(2, "--amount", 250, "--was-corrected")
+    assert desk.accounts() == {ANNA: (1_000, 600), BORIS: (250, 200), "UNCLAIMED": (0, 1_300)}
+    # The work of the round owns the recording of the first pool from then on, whoever claims it later.
+    desk.steps(of_a(1, OTHER, CLARA))
+    assert desk.settled() == [99_998, 99_997] and desk.balances() == {ANNA: 1_000, BORIS: 250}
+    assert json.loads(desk.run("propose", "--amount", 5, "--no-returns"))["returns"] == []
+    assert "pool 3 is none that people have closed over plays" in desk.run("amend", 3, "--amount", 1, status=1)
+
+
+def test_what_owns_a_recording_when_it_was_paid_late_owns_it(desk: Desk) -> None:
+    desk.steps(of_a())
+    held = desk.due()
+    # Before the order was sent, another work claimed the recording, and the first one gave it up.
+    desk.steps(of_a(1, OTHER, CLARA), file(HOUSE, 2, work("W1", B, holder(ANNA, 10_000), kind="REV")))
+    assert desk.accounts()[CLARA] == (1_000, 0)
+    other = desk.due()
+    # (both pay the same units of the recording, so that their returns are the same)
+    assert desk.send(*held, *other) == [201, 201, 200, 409]
+    assert desk.accounts() == {ANNA: (1_000, 1_000), "UNCLAIMED": (0, 1_000)} and desk.due() == []
+
+
+@pytest.mark.parametrize("apart", [False, True])
+def test_what_is_too_much_is_set_off(program: str, tmp_path: pathlib.Path, apart: bool) -> None:
+    works = file(HOUSE, 1, work("W1", A, holder(ANNA, 10_000)), work("W2", B, holder(ANNA, 10_000)))
+    returns = [Return("RADIO1", 1, [(A, 1, 1)]), Return("RADIO1", 2, [(B, 1, 1)])]
+    pools = [Pool(k, "PR", 1_000, {HOUSE: 1}, [("RADIO1", k)]) for k in (1, 2)]
+    desk = Desk(program, tmp_path, works, *returns, *pools)
+    desk.amend(1, "--amount", 400)
+    desk.amend(2, "--amount", 1_900)
+    assert desk.accounts()[ANNA] == (2_300, 2_000)
+    order = desk.written("dues", *(["--no-set-off"] if apart else []))
+    assert json.loads(order[1][1])["amount"] == (900 if apart else 300)
+    desk.send(*order)
+    assert "too much" in desk.run("dues", "--account", ANNA) and desk.due() == []
+
+
+def test_nothing_is_written_that_passes_what_is_due(desk: Desk, monkeypatch: pytest.MonkeyPatch) -> None:
+    desk.steps(of_a())
+    monkeypatch.setattr(dues, "fitting", lambda weights, rooms, most: 1_001)
+    assert desk.written("dues", status=1) == []
+    assert "the program would pay beyond what is due: 1,001 units of ATABC2600001 to I00000000101, which lacks 1,000 of it" in desk.said
+
+
+def test_an_amendment_and_its_list(desk: Desk, decided: pathlib.Path) -> None:
+    listed = decided / "amendments.txt"
+    desk.steps(of_a())
+    change = desk.amended(1, "--amount", 300)
+    assert listed.read_text().splitlines()[1:] == ['99999 1 {"amount":300,"cut":[],"returns":[["RADIO1",1]]}']
+    # The same words write it again, and others are refused until it is in force or gone.
+    assert desk.amended(1, "--amount", 300) == change and len(listed.read_text().splitlines()) == 2
+    assert "another amendment that is not in force" in desk.run("amend", 1, "--amount", 301, status=1)
+    text = listed.read_text()
+    for wrong in ('99999 7 {"amount":1,"cut":[],"returns":[]}', '99999 1 {"amount":1}'):
+        listed.write_text(wrong + "\n")
+        desk.run("dues", status=1)
+    listed.write_text("")
+    assert desk.send(*change) == [201, 201]
+    assert "pool 99999 amends pool 1, and the list of amendments has no line `99999 1 ..`" in desk.run("dues", status=1)
+    listed.write_text(text)
+    assert desk.settled() == [99_998] and desk.balances() == {ANNA: 300}
+    # Returns that an amendment adds are paid by its pool, so that nobody pays them again; one that it does not name is told.
+    desk.steps(Return("RADIO1", 2, [(A, 1, 1)]))
+    listed.write_text(text + '99997 1 {"amount":300,"cut":[],"returns":[["RADIO1",1],["RADIO1",2]]}\n')
+    assert "is not in force" in desk.run("dues", status=1)
+    listed.write_text(text)
+    desk.amend(1, "--amount", 500, "--returns", "RADIO1/1-2")
+    assert desk.run("propose", "--amount", 5, "--returns", "RADIO1/2", status=1).endswith("paid by pool 99997\n")
+    assert json.loads(desk.run("dues", "--pool", 1, "--format", "json"))[0]["due"] == 500
+    for words, why in {
+        ("--returns", "RADIO1/3"): "no such return is stored",
+        ("--returns", "AMEND1/99997"): "a return of the office itself",
+        ("--cut", f"{HOUSE}=7"): "has all files up to 1 only",
+    }.items():
+        assert why in desk.run("amend", 1, *words, status=1)
+    (decided / "void.txt").write_text("RADIO1/2\n")
+    assert "RADIO1/2: void" in desk.run("amend", 1, "--returns", "RADIO1/2", status=1)
+    assert "pool 7 is none that people have closed" in desk.run("amend", 7, "--amount", 1, status=1)
+    assert "--into and --why belong together" in desk.run("amend", 1, "--why", "so", status=2)
+
+
+def test_the_words_of_before_name_what_took_their_place(desk: Desk) -> None:
+    assert "`society-office amend COPY POOL` says how an order should have been" in desk.run("correct", 1, "--amount", 5, status=1)
+    assert "`society-office dues COPY --next FOLDER`" in desk.run("unclaimed", "--settle", "x", status=2)
+
+
+def test_numbers_go_down_past_pools_of_people(program: str, tmp_path: pathlib.Path) -> None:
+    desk = Desk(program, tmp_path, *PLAYED, Return("RADIO1", 2, [(B, 1, 1)]), Pool(99_999, "PR", 10, {}, [("RADIO1", 2)]))
+    desk.steps(of_a())
+    assert desk.settled() == [99_998]
+    assert "pool 2 is free" in run_errors(desk, "propose", "--amount", 5, "--no-returns")
+
+
+def run_errors(desk: Desk, *words: object) -> str:
+    """What a command says on standard error."""
+    command, *rest = (str(it) for it in words)
+    return CliRunner(mix_stderr=False).invoke(main, [command, str(desk.live), *rest], catch_exceptions=False).stderr
