@@ -43,10 +43,10 @@ def orders_as_due(book: Book, amendments: Sequence[Amendment], void: Sequence[En
     """By play pool the order by which it is due: as it was closed, or as the last amendment in force has it, without void returns.
 
     An OfficeError names what doesn't fit together; with `was_corrected` an older correction may lack its amendment."""
-    found, amending = {pool: it for pool, it in book.orders.items() if book.is_play(pool)}, book.amending()
-    wrong = [*without_pool(book, amendments, amending), *without_line(amendments, amending)]
+    found = {pool: it for pool, it in book.orders.items() if book.is_play(pool)}
+    wrong = [*without_pool(book, amendments), *without_line(book, amendments)]
     for it in sorted(amendments, key=lambda it: -it.number):
-        if amending.get(it.number) == it.pool and it.pool in found:
+        if book.amending.get(it.number) == it.pool and it.pool in found:
             found[it.pool] = order_of(it)
             wrong += unpaid(book, it)
     wrong += [] if was_corrected else not_amended(book, {it.pool for it in amendments})
@@ -61,21 +61,21 @@ def without_void(it: Order, void: Sequence[Entry]) -> Order:
     return dataclasses.replace(it, returns=[one for one in it.returns if not are_listed(void, one)])
 
 
-def without_pool(book: Book, amendments: Sequence[Amendment], amending: Mapping[int, int]) -> Iterator[str]:
+def without_pool(book: Book, amendments: Sequence[Amendment]) -> Iterator[str]:
     """The lines whose pool is not there, or is another one's."""
     for it in amendments:
         line, own = f"{it.where}: `{it.number} {it.pool}`", f"{amends(it.pool)}/{it.number}"
-        if it.pool not in book.orders or not book.is_play(it.pool):
+        if not book.is_play(it.pool):
             yield f"{line}: pool {it.pool} is none that people have closed over plays: take the line out"
-        elif amending.get(it.number) != it.pool:
+        elif book.amending.get(it.number) != it.pool:
             what = f"pool {it.number} is not over {own}" if it.number in book.orders else f"no pool {it.number} is closed over {own}"
             yield f"{line} is not in force, {what}: close it (`amend` with the same words writes it again), or take the line out"
 
 
-def without_line(amendments: Sequence[Amendment], amending: Mapping[int, int]) -> Iterator[str]:
+def without_line(book: Book, amendments: Sequence[Amendment]) -> Iterator[str]:
     """The amendments' pools whose line is not there."""
     lines = {(it.number, it.pool) for it in amendments}
-    for number, pool in amending.items():
+    for number, pool in book.amending.items():
         if (number, pool) not in lines:
             yield f"pool {number} amends pool {pool}, and the list of amendments has no line `{number} {pool} ..`: put it back"
 

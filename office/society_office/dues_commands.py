@@ -62,7 +62,7 @@ def list_dues(
     with open_whole(copy) as opened:
         known, found = decided(noted(opened), folder), find_program(program)
         book = Book(opened)
-        if pool is not None and (pool not in book.orders or not book.is_play(pool)):
+        if pool is not None and not book.is_play(pool):
             raise OfficeError(f"pool {pool} is none that people have closed over plays")
         dues = Dues(opened, book, orders_as_due(book, known.amendments, known.void), asking(found, opened))
         if into:
@@ -164,7 +164,7 @@ class Made:
 
 def amendment(copy: Copy, book: Book, known: Decisions, pool: int, changes: Changes) -> Made:
     """The amendment of a pool; an OfficeError where it can't be amended so."""
-    if pool not in book.orders or not book.is_play(pool):
+    if not book.is_play(pool):
         raise OfficeError(f"pool {pool} is none that people have closed over plays")
     if not changes.was_corrected and pool not in {it.pool for it in known.amendments} and corrects(pool) in {it[0] for it in book.stored}:
         raise OfficeError(f"pool {pool} was corrected by {corrects(pool)}: say by which order it is due, with --was-corrected")

@@ -1,12 +1,11 @@
 """What the pools of a book are: closed by people over plays, or by the office's own orders, whose numbers go down in one row.
 
-A make-up pays what is lacking: its one return is `DUE..` or `LATE..` of its own number. An amendment's pool has a return `AMENDp` of its
-own number: pool p is due by another order than the one that closed it. Any other pool is a play pool. In older books pools over SETTLED or
-CORRECTEDn alone, which people numbered, are make-ups too.
+A make-up pays what is lacking: its return is `DUE..` or `LATE..`, of its own number. An amendment's pool has a return `AMENDp` of its own
+number: pool p is due by another order than the one that closed it. Any other pool is a play pool. In older books pools over SETTLED or
+CORRECTEDn alone, which people numbered, are make-ups too, and so is one that was sent under a wrong number.
 """
 
 import collections
-from collections.abc import Iterator
 
 from society_office.copy import Copy
 from society_office.errors import OfficeError
@@ -30,35 +29,29 @@ class Book:
         self.paid_by = {it: pool for pool, listed in returns.items() for it in listed}
         self.stored: set[Return] = set(copy.rows("SELECT reporter, number FROM returns"))
         self.newest: Cut = tuple(cut_of(copy))
+        # The amendments' pools, each with the pool that it amends.
+        own = [(pool, amended_by(reporter)) for (reporter, number), pool in self.paid_by.items() if number == pool]
+        self.amending = {pool: amended for pool, amended in own if amended is not None}
 
-    def own(self, pool: int) -> set[str]:
-        """The reporters of those of a pool's returns that are the office's own and have the pool's number."""
-        return {reporter for reporter, number in self.orders[pool].returns if number == pool and is_numbered_down(reporter)}
-
-    def amending(self) -> dict[int, int]:
-        """The amendments' pools, each with the pool that it amends."""
-        return {it: pool for it in self.orders for reporter in sorted(self.own(it)) if (pool := amended_by(reporter)) is not None}
-
-    def is_numbered_down(self, pool: int) -> bool:
-        """Whether a pool is a make-up or an amendment's."""
-        own = self.own(pool)
-        return bool(own) and len(self.orders[pool].returns) == 1 or any(amended_by(it) is not None for it in own)
+    def is_make_up(self, pool: int) -> bool:
+        """Whether a pool pays what is lacking."""
+        returns = self.orders[pool].returns
+        return bool(returns) and all(is_own(reporter) and amended_by(reporter) is None for reporter, _ in returns)
 
     def is_play(self, pool: int) -> bool:
-        """Whether a pool is a play pool; one over no return is."""
-        returns = self.orders[pool].returns
-        older = bool(returns) and all(is_own(reporter) and not is_numbered_down(reporter) for reporter, _ in returns)
-        return not older and not self.is_numbered_down(pool)
+        """Whether there is a pool of this number, and people have closed it over plays, or over no return."""
+        return pool in self.orders and pool not in self.amending and not self.is_make_up(pool)
 
-    def late(self, right: str) -> Iterator[int]:
+    def late(self, right: str) -> list[int]:
         """The make-ups of a right that pay what has an owner by now, as they were closed: those of older books first."""
-        for it in sorted(self.orders, key=lambda it: (self.is_numbered_down(it), -it if self.is_numbered_down(it) else it)):
-            if self.orders[it].kind == right and not self.is_play(it) and any(pays_late(one) for one, _ in self.orders[it].returns):
-                yield it
+        found = sorted((is_numbered_down(it), -number, pool) for (it, number), pool in self.paid_by.items() if pays_late(it))
+        older = sorted(pool for is_down, _, pool in found if not is_down)
+        listed = [*older, *(pool for is_down, _, pool in found if is_down)]
+        return [it for it in dict.fromkeys(listed) if self.orders[it].kind == right and self.is_make_up(it)]
 
     def next_number(self) -> int:
-        """The number of the next pool in the row: below all that are in it; an OfficeError where no number is left."""
-        number = min(filter(self.is_numbered_down, self.orders), default=LAST_POOL + 1) - 1
+        """The number of the next pool in the row: below those of all own returns that were paid; an OfficeError where none is left."""
+        number = min((it for reporter, it in self.paid_by if is_numbered_down(reporter)), default=LAST_POOL + 1) - 1
         while number in self.orders:
             number -= 1
         if number < 1:

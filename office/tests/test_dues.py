@@ -247,6 +247,15 @@ def test_an_amendment_and_its_list(desk: Desk, decided: pathlib.Path) -> None:
     assert "--into and --why belong together" in desk.run("amend", 1, "--why", "so", status=2)
 
 
+def test_an_order_that_was_sent_under_a_wrong_number_counts_as_paid(desk: Desk) -> None:
+    desk.steps(of_a())
+    letters = desk.due()
+    assert desk.send(letters[0], ("/pools/2", letters[1][1])) == [201, 201]
+    assert desk.accounts()[ANNA] == (1_000, 1_000) and desk.due() == [] and desk.send(letters[1]) == [409]
+    desk.amend(1, "--amount", 1_200)
+    assert desk.settled() == [99_997] and desk.balances() == {ANNA: 1_200}
+
+
 def test_the_words_of_before_name_what_took_their_place(desk: Desk) -> None:
     assert "`society-office amend COPY POOL` says how an order should have been" in desk.run("correct", 1, "--amount", 5, status=1)
     assert "`society-office dues COPY --next FOLDER`" in desk.run("unclaimed", "--settle", "x", status=2)
