@@ -3,11 +3,12 @@
 import collections
 import csv
 import io
+import itertools
 import json
 import pathlib
 import subprocess
 import tempfile
-from collections.abc import Callable, Iterator, Sequence
+from collections.abc import Callable, Iterable, Iterator, Sequence
 from typing import NamedTuple, TextIO
 
 from society_office import faults
@@ -58,31 +59,34 @@ class Asked(NamedTuple):
 NEW = 201
 # Recordings that one line names: it has a million bytes at most, and an order takes some forty thousand.
 MOST_NAMED = 50_000
-# Answers all orders, one after another.
-Ask = Callable[[Sequence[Asked]], list[list[Row]]]
+# Answers orders one after another, each by its rows.
+Ask = Callable[[Sequence[Asked]], Iterable[list[Row]]]
 
 
 def asking(program: str, copy: Copy) -> Ask:
-    """Asks the program over a throw-away copy; its answer is an OfficeError where it refuses an order."""
+    """Asks the program over a throw-away copy, which it audits first; its answer is an OfficeError where that is unsound or it refuses an
+    order."""
 
-    def ask(asked: Sequence[Asked]) -> list[list[Row]]:
-        if not asked:
-            return []
+    def ask(asked: Sequence[Asked]) -> Iterator[list[Row]]:
+        parts = [(place, one) for place, it in enumerate(asked) for one in it.parts]
+        lines = "".join(f"{it.json}\n" for _, it in parts).encode()
         with tempfile.TemporaryDirectory(prefix="society-office-") as folder:
             database, out = pathlib.Path(folder) / "copy.db", pathlib.Path(folder) / "credits.csv"
             copy.save(database)
-            parts = [(place, one) for place, it in enumerate(asked) for one in it.parts]
-            lines = "".join(f"{it.json}\n" for _, it in parts).encode()
             with out.open("wb") as into:
                 words = [program, "credit", "--db", str(database), *copy.office_words]
                 done = subprocess.run(words, input=lines, stdout=into, stderr=subprocess.PIPE, check=False)
             if done.returncode:
                 raise OfficeError(f"`society credit` over {copy.path}: {done.stderr.decode(errors='replace').strip()}")
-            found: list[list[Row]] = [[] for _ in asked]
             with out.open(encoding="latin-1", newline="") as text:
-                for line, row in rows_in(text):
-                    found[parts[line][0]].append(row)
-            return found
+                by_order = itertools.groupby(rows_in(text), key=lambda it: parts[it[0]][0])
+                place, rows = next(by_order, (len(asked), iter(())))
+                for wanted in range(len(asked)):
+                    if wanted < place:
+                        yield []
+                        continue
+                    yield [row for _, row in rows]
+                    place, rows = next(by_order, (len(asked), iter(())))
 
     return ask
 

@@ -116,40 +116,45 @@ class Dues:
         yield from ((Way(right, LATE, cut, True), isrcs) for cut, isrcs in by_cut.items())
 
     def add_due(self, ask: Ask) -> None:
-        """Adds what is due otherwise than it was credited."""
+        """Adds what is due otherwise than it was credited, pool after pool."""
         asked = [(pool, way, isrcs) for pool in self.orders for way, isrcs in self.ways(pool)]
         answers = ask([Asked(dataclasses.replace(self.orders[pool], cut=list(way.cut)), isrcs) for pool, way, isrcs in asked])
-        found: dict[tuple[int, str], tuple[Way, list[Row]]] = {}
-        for (pool, way, _), rows in zip(asked, answers):
-            for isrc, listed in itertools.groupby(rows, key=lambda it: it.isrc):
-                group = list(listed)
-                # (the first cut that has an owner counts; where none has, the order's own)
-                if (pool, isrc) not in found or group[0].sender and not found[pool, isrc][1][0].sender:
-                    found[pool, isrc] = way, group
-        for (pool, isrc), (way, group) in found.items():
-            if pool in self.changed or way.reporter == LATE:
-                self.add(pool, way, group)
+        for pool, listed in itertools.groupby(zip(asked, answers), key=lambda it: it[0][0]):
+            found: dict[str, tuple[Way, list[Row]]] = {}
+            for (_, way, _), rows in listed:
+                for isrc, own in itertools.groupby(rows, key=lambda it: it.isrc):
+                    group = list(own)
+                    # (the first cut that has an owner counts; where none has, the order's own)
+                    if isrc not in found or group[0].sender and not found[isrc][1][0].sender:
+                        found[isrc] = way, group
+            self.add_pool(pool, found)
 
-    def add(self, pool: int, way: Way, rows: Sequence[Row]) -> None:
-        """Adds what is due of a recording in a pool; what an order credits as it was closed counts as paid there."""
-        isrc = rows[0].isrc
-        due = Units()
-        for it in rows:
-            due[way.right, isrc, it.account] += it.part
-        self.weights[way][isrc] = [(it.account, it.weight) for it in rows]
-        if way.may_change:
-            self.changing.update(due)
-        if pool not in self.changed:
-            due[way.right, isrc, UNCLAIMED] -= self.open[pool][isrc]
-        self.by_pool[pool].update(due)
+    def add_pool(self, pool: int, found: Mapping[str, tuple[Way, list[Row]]]) -> None:
+        """Adds what is due of the recordings of a pool, less what it has credited itself, and how a further pool pays what then differs."""
+        differs, changing = self.credited(pool) if pool in self.changed else Units(), Units()
+        late = {isrc: it for isrc, it in found.items() if pool in self.changed or it[0].reporter == LATE}
+        for isrc, (way, rows) in late.items():
+            for it in rows:
+                differs[way.right, isrc, it.account] += it.part
+                changing[way.right, isrc, it.account] += it.part if way.may_change else 0
+            if pool not in self.changed:
+                differs[way.right, isrc, UNCLAIMED] -= self.open[pool][isrc]
+        self.by_pool[pool] = Units({key: units for key, units in differs.items() if units})
+        self.changing.update(changing)
+        for isrc in {key[1] for key in self.by_pool[pool]} & late.keys():
+            self.weights[late[isrc][0]][isrc] = [(it.account, it.weight) for it in late[isrc][1]]
+
+    def credited(self, pool: int) -> Units:
+        """What a pool has credited, as taken off."""
+        question = "SELECT isrc, account, sum(units) FROM credits WHERE pool = ? AND units > 0 GROUP BY isrc, account"
+        right = self.book.orders[pool].kind
+        return Units({(right, isrc, account): -units for isrc, account, units in self.copy.rows(question, pool)})
 
     def take_paid(self) -> None:
-        """Takes off what was paid by pools that are no play pools, or are due by another order."""
-        question = "SELECT isrc, account, sum(units) FROM credits WHERE pool = ? AND units > 0 GROUP BY isrc, account"
+        """Takes off what was paid by pools that are no play pools."""
         for pool, order in self.book.orders.items():
-            if order.amount and (pool in self.changed or pool not in self.orders):
-                paid = {(order.kind, isrc, account): units for isrc, account, units in self.copy.rows(question, pool)}
-                self.by_pool[pool].subtract(paid)
+            if order.amount and pool not in self.orders:
+                self.by_pool[pool] = self.credited(pool)
         for found in self.by_pool.values():
             self.difference.update(found)
         self.difference = Units({key: units for key, units in self.difference.items() if units})

@@ -96,7 +96,8 @@ def as_csv(lines: Sequence[Line], columns: Sequence[str]) -> str:
     out = io.StringIO()
     writer = csv.writer(out, lineterminator="\n")
     writer.writerow([it.replace(" ", "_").lower() for it in columns])
-    writer.writerows([plain(it) if isinstance(it, str) else it for it in one.cells] for one in lines)
+    # (a right and a recording are no texts of a sender)
+    writer.writerows([plain(it) if isinstance(it, str) and columns is COLUMNS else it for it in one.cells] for one in lines)
     return out.getvalue()
 
 

@@ -6,7 +6,7 @@ import sys
 import click
 
 from society_office import order_output, orders, rehearsal, rehearsal_output
-from society_office.command_words import COPY_HELP, PATH, POOL, PROGRAM_HELP, WRONG, Command, decided, fail, noted
+from society_office.command_words import COPY_HELP, PATH, POOL, PROGRAM_HELP, WRONG, Command, decided, fail, looked_up, noted
 from society_office.command_words import with_decisions
 from society_office.copy import Copy
 from society_office.errors import OfficeError
@@ -23,14 +23,15 @@ from society_office.unclaimed import BOOKING, MAY_BE_OWNED, Unclaimed, as_json
 @click.option("--pool", type=POOL, metavar="POOL", help="Only this pool.")
 @click.option("--format", "form", type=click.Choice(["table", "json"]), default="table", help="How it is written.")
 @click.option("--settle", hidden=True, expose_value=False, callback=lambda *it: refuse_old(*it))
-def unclaimed(copy: pathlib.Path, pool: int | None, form: str) -> None:
+@with_decisions
+def unclaimed(copy: pathlib.Path, pool: int | None, form: str, folder: pathlib.Path | None) -> None:
     """Why money went to nobody, by cause, and what can be done about it.
 
     Works and titles are those at the pool's cut. What was a conflict, or not in the cut, and has one owner now is due to its holders:
     `dues` tells what of it was not paid yet.
     """
     with open_whole(copy) as opened:
-        noted(opened)
+        looked_up(noted(opened), folder)
         if pool is not None:
             refuse_unknown(opened, pool)
         found = Unclaimed(opened).items(pool)

@@ -3,6 +3,7 @@
 office/bench/chains.py runs thousands of them.
 """
 
+import dataclasses
 import os
 import subprocess
 import sys
@@ -14,10 +15,12 @@ from chains import Chain
 from conftest import HERE
 from ledger import EMPTY, Due, Order, Work, opened
 from society_office import dues
+from society_office.amendments import orders_as_due
 from society_office.copy import Copy
 from society_office.fields import MAX_BODY
 from society_office.own_returns import ROWLESS, return_of, unit_rows
 from society_office.plays import points
+from society_office.pool_kinds import Book
 from society_office.return_faults import return_faults
 
 COUNT = 60
@@ -116,3 +119,64 @@ def test_rows_have_the_points_of_units(units: int) -> None:
     listed = list(unit_rows("ATABC2600001", units))
     body = (ROWLESS + "".join(listed)).encode()
     assert return_faults(body) == [] and points(body) == {"ATABC2600001": units} and len(listed) <= units // FULL + 2
+
+
+HOUSE, A, B, C = "PB000000012", "ATABC0000000", "ATABC0000001", "ATABC0000002"
+
+
+def prepared(*pools: tuple[str, int, bool, str]) -> Chain:
+    """An office in which Anna has three recordings, and pools of a right and an amount, whose cut counts her work or not, over some."""
+    chain = Chain(0)
+    chain.apart = False
+    chain.ledger.send_file(HOUSE, [Work("W1", (A, B, C), ((ANNA, 10_000, 10_000),))])
+    for pool, (right, amount, counts, isrcs) in enumerate(pools, 1):
+        chain.ledger.send_return(("RADIO1", pool), ROWLESS + "".join(f"{it},1,1\n" for it in isrcs.split()))
+        chain.ledger.close(pool, Order(right, amount, ((HOUSE, 1),) if counts else (), (("RADIO1", pool),)))
+    return chain
+
+
+def amend(chain: Chain, pool: int, amount: int) -> None:
+    number, was = 99_999 - len(chain.amendments), chain.ledger.pools[pool]
+    chain.amendments.append((number, pool, Order(was.right, amount, was.cut, was.returns)))
+    chain.ledger.send_return((f"AMEND{pool}", number), ROWLESS)
+    assert chain.ledger.close(number, Order(was.right, 0, was.cut, ((f"AMEND{pool}", number),))) == 201
+
+
+def next_of(chain: Chain) -> tuple[str, dict[str, int]]:
+    """What the next order is of, and the units of its recordings."""
+    made = chain.write_make_up(Copy(EMPTY, opened(chain.ledger.kept())))
+    assert made is not None
+    return made.way.reporter, dict(chain.ledger_points(made.body))
+
+
+def test_what_may_change_is_paid_by_the_newest_cut_alone() -> None:
+    chain = prepared(("PR", 1_000, False, A), ("PR", 1_000, True, f"{A} {B}"))
+    amend(chain, 2, 11_000)
+    assert next_of(chain) == ("DUE", {A: 5_000, B: 5_000})
+
+
+def test_what_may_change_is_needed_by_the_order_that_pays_it_alone() -> None:
+    chain = prepared(("PR", 1_000, False, A), ("PR", 1_500, True, B), ("PR", 100, True, C))
+    amend(chain, 2, 500)
+    amend(chain, 3, 700)
+    assert next_of(chain) == ("LATE", {A: 600})
+
+
+def test_what_may_change_in_another_right_is_needed_by_another_order() -> None:
+    chain = prepared(("PR", 300, False, A), ("MR", 700, False, A), ("PR", 1_500, True, B))
+    amend(chain, 3, 1_400)
+    copy = Copy(EMPTY, opened(chain.ledger.kept()))
+    book = Book(copy)
+    found = dues.Dues(copy, book, orders_as_due(book, chain.listed, []), chain.ask)
+    made = chain.write_make_up(copy)
+    assert made is not None and made.order.kind == "MR" and made.order.amount == 600
+    other = dataclasses.replace(made, way=dataclasses.replace(made.way, right="PR"))
+    assert found.beyond(other, {(A, ANNA): 200}) == [] and found.beyond(made, {(A, ANNA): 600}) == []
+    assert found.beyond(other, {(A, ANNA): 201}) == [f"201 units to {ANNA}, which lacks 200 in all"]
+
+
+def test_what_a_recording_pays_is_needed_no_more() -> None:
+    chain = prepared(("PR", 1_000, True, f"{A} {B}"), ("PR", 1_500, True, C))
+    amend(chain, 1, 2_000)
+    amend(chain, 2, 800)
+    assert next_of(chain) == ("DUE", {A: 300})

@@ -198,7 +198,7 @@ def test_commands_say_the_same_of_both(summed: pathlib.Path, plain: pathlib.Path
     monkeypatch.setenv("SOCIETY_PROGRAM", program)
     for words in (
         ["statement", "{}", "UNCLAIMED"],
-        ["correct", "{}", 1, "--amount", 2_000_003],
+        ["amend", "{}", 1, "--amount", 2_000_003],
         ["rebuild", "{}"],
         ["why", "{}", quarter.ALPHA],
     ):

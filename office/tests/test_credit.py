@@ -1,0 +1,72 @@
+"""`society credit` beside a reckoning by hand, and beside what pools were credited."""
+
+import io
+import json
+import pathlib
+import subprocess
+
+import credit_by_hand
+import pytest
+import quarter
+import random_office
+from conftest import OFFICE, made
+from office_value import Office, order_body
+from society_office import credit
+from society_office.copy import open_copy
+from society_office.credit import Asked, asking
+from society_office.dues import Dues
+from society_office.errors import OfficeError
+from society_office.pool_kinds import Book
+
+COUNT = 12
+
+
+def lines_for(office: Office) -> list[str]:
+    """Orders as they were closed, in the other right at the newest cut, of some recordings, and wrong ones."""
+    found = []
+    for it in office.pools.values():
+        later = it._replace(cut=office.fronts(), right="MR" if it.right == "PR" else "PR")
+        some = json.dumps({**json.loads(order_body(it)), "isrcs": random_office.RECORDINGS[:4]})
+        unknown = it._replace(returns=[*it.returns, ("NONE", 7)])
+        too_far = it._replace(cut={**it.cut, **{key: 999_999 for key in list(office.fronts())[:1]}})
+        found += [order_body(one).decode() for one in (it, later, unknown, too_far)] + [some, "{", '{"amount":1}']
+    return found
+
+
+@pytest.mark.parametrize("number", range(COUNT))
+def test_the_program_answers_what_a_reckoning_says(number: int, folder: pathlib.Path, program: str) -> None:
+    office = random_office.office(number)
+    copy, lines = made(program, office, folder), lines_for(office)
+    done = subprocess.run([program, "credit", "--db", copy, *OFFICE], input="\n".join(lines).encode(), capture_output=True, check=False)
+    out, errors = io.StringIO(), io.StringIO()
+    status = credit_by_hand.answer(copy, lines, out, errors)
+    assert (done.returncode, done.stdout.decode(), done.stderr.decode()) == (status, out.getvalue(), errors.getvalue())
+
+
+def test_an_order_of_a_closed_pool_gives_its_credits(copy: pathlib.Path, program: str) -> None:
+    with open_copy(copy) as opened:
+        book, ask = Book(opened), asking(program, opened)
+        answers = ask([Asked(it) for it in book.orders.values()])
+        for pool, rows in zip(book.orders, answers):
+            credited = list(opened.rows("SELECT isrc, account, units FROM credits WHERE pool = ? ORDER BY line", pool))
+            assert [(it.isrc, it.account, it.part) for it in rows] == credited
+            assert sum(it.part for it in rows) == book.orders[pool].amount
+
+
+def test_more_recordings_than_a_line_takes(copy: pathlib.Path, program: str, monkeypatch: pytest.MonkeyPatch) -> None:
+    with open_copy(copy) as opened:
+        book, ask = Book(opened), asking(program, opened)
+        [whole] = list(ask([Asked(book.orders[1])]))
+        monkeypatch.setattr(credit, "MOST_NAMED", 2)
+        isrcs = sorted({it.isrc for it in whole})
+        assert list(ask([Asked(book.orders[3], []), Asked(book.orders[1], isrcs), Asked(book.orders[3], [])])) == [[], whole, []]
+        found = Dues(opened, book, book.orders, ask)
+        assert found.difference and not found.changed
+
+
+def test_a_refusal_is_told(copy: pathlib.Path, program: str) -> None:
+    with open_copy(copy) as opened:
+        order = Book(opened).orders[1]
+        order.cut.append((quarter.ALPHA, 99))
+        with pytest.raises(OfficeError, match="cut PB000000012 front 3"):
+            list(asking(program, opened)([Asked(order)]))
