@@ -180,3 +180,45 @@ def test_what_a_recording_pays_is_needed_no_more() -> None:
     amend(chain, 1, 2_000)
     amend(chain, 2, 800)
     assert next_of(chain) == ("DUE", {A: 300})
+
+
+@pytest.mark.parametrize(
+    "weights, rooms, units",
+    [
+        # All that is lacking, where its split is just that, to the last unit.
+        ([3_333, 3_333, 3_334, 0], [333, 333, 334, 0], 1_000),
+        ([3_333, 3_333, 3_334, 0], [333, 333, 332, 0], 995),
+        ([5_000, 5_000, 0], [3, 2, 0], 5),
+        ([5_000, 5_000, 0], [2, 3, 0], 4),
+        ([10_000, 0, 0], [7, 0, 0], 7),
+        ([9_999, 1, 0], [6_000, 0, 0], 0),
+        # Up to a half is nobody's without a limit, more than that no more than nobody lacks.
+        ([5_000, 5_000], [500, 0], 1_000),
+        ([4_999, 5_001], [500, 0], 0),
+        ([4_000, 6_000], [400, 300], 500),
+        ([4_000, 6_000], [400, 600], 1_000),
+        ([4_000, 6_000], [0, 600], 0),
+        ([10_000], [85], 85),
+        ([10_000], [0], 0),
+    ],
+)
+def test_the_units_of_a_recording(weights: list[int], rooms: list[int], units: int) -> None:
+    names = [*(f"I{k:011d}" for k in range(1, len(weights))), "UNCLAIMED"]
+    assert dues.fitting(list(zip(names, weights)), dict(zip(names, rooms)), 10**12) == units
+    assert dues.fitting(list(zip(names, weights)), dict(zip(names, rooms)), units // 2) <= units // 2
+
+
+def test_of_ways_that_pay_the_same_units_one_is_next() -> None:
+    chain = prepared(("PR", 500, False, A), ("MR", 500, False, B))
+    made = chain.write_make_up(Copy(EMPTY, opened(chain.ledger.kept())))
+    assert made is not None and made.order.kind == "MR"
+    chain = prepared(("PR", 500, False, A), ("PR", 500, True, B))
+    amend(chain, 2, 1_000)
+    assert next_of(chain) == ("LATE", {A: 500})
+    chain = prepared(("PR", 500, True, A), ("PR", 500, True, B))
+    chain.ledger.send_file("PB000000034", [])
+    chain.ledger.send_return(("RADIO1", 3), f"{ROWLESS}{C},1,1\n")
+    chain.ledger.close(3, Order("PR", 500, ((HOUSE, 1), ("PB000000034", 1)), (("RADIO1", 3),)))
+    amend(chain, 1, 1_000)
+    amend(chain, 3, 1_000)
+    assert next_of(chain) == ("DUE", {C: 500})
