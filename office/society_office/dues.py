@@ -24,6 +24,7 @@ from society_office.plays import MOST_ROWS, points
 from society_office.pool_kinds import Book, Cut
 from society_office.records import UNCLAIMED
 from society_office.return_names import Return
+from society_office.splitting import split
 
 # A right, a recording, an account.
 Key = tuple[str, str, str]
@@ -251,14 +252,10 @@ def cut_over(newest: Cut, senders: set[str]) -> Cut:
 
 
 def shared(units: int, weights: Weights) -> collections.Counter[str]:
-    """What accounts get of a recording's units: whole parts, and last units by the greatest remainders, the earlier line first."""
-    whole = sum(weight for _, weight in weights)
-    parts = [units * weight // whole for _, weight in weights]
-    for k in sorted(range(len(weights)), key=lambda k: -(units * weights[k][1] % whole))[: units - sum(parts)]:
-        parts[k] += 1
+    """What accounts get of a recording's units."""
     found: collections.Counter[str] = collections.Counter()
-    for (account, _), part in zip(weights, parts):
-        found[account] += part
+    for (account, _), part in zip(weights, split(units, [weight for _, weight in weights])):
+        found[account] += part.units
     return found
 
 

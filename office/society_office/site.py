@@ -13,6 +13,7 @@ from typing import Any
 from society_office import faults, pages, pictures
 from society_office.copy import Copy
 from society_office.numbering import Line, as_sent, ranges, segment_text
+from society_office.own_returns import is_own
 from society_office.parties import names_of, parties
 from society_office.plain_text import plain
 from society_office.plays import points
@@ -137,10 +138,12 @@ class Site:
         return found
 
     def stations(self) -> list[Station]:
-        """Each reporter with its returns."""
+        """Each station with its returns; those of the office itself are of none."""
         paid = {(reporter, number): pool for reporter, number, pool in self.copy.rows("SELECT reporter, number, pool FROM pool_returns")}
         found: dict[str, Station] = {}
         for reporter, number, body in self.copy.rows("SELECT reporter, number, body FROM returns ORDER BY reporter, number"):
+            if is_own(reporter):
+                continue
             listed = points(bytes(body))
             is_void = are_listed(self.void, (reporter, number))
             state = f"paid by pool {paid[reporter, number]}" if (reporter, number) in paid else "void" if is_void else "unpaid"
