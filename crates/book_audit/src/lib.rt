@@ -29,6 +29,8 @@ pub use entries::entries_in;
 pub use lines::{run_of, settled_line};
 pub use paying::works_of;
 pub use pool_orders::ClosedPool;
+pub use reached::{Reach, reach_of};
 pub use reading::worked_out;
+pub use returns::is_there;
 pub use standing::orders_in;
 pub use totals::Totals;

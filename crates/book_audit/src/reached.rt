@@ -1,8 +1,9 @@
 //! How far the senders of cuts came, each read once.
-ghost use Rattle.std.specs.Prelude.{◌≡◌, true};
+ghost use Rattle.std.specs.Prelude.{◌≡◌, List, ℕ, true};
 ghost use Rattle.society_book.specs.Steps.{Examines};
 ghost use Rattle.book_audit.specs.Standing.{HoldsNoLines, IsReachKnown, IsReach, KnowsReach, LearnsReach, OfLines, TellsCut};
 ghost use Rattle.society_core.specs.Book.{front, is_applied};
+ghost use Rattle.society_core.specs.Keys.{transmission_key};
 ghost use Rattle.society_book.specs.EndLists.{ReadsEnds};
 ghost use Rattle.society_rows.specs.Between.{Within};
 ghost use Rattle.sqlite_trees.specs.Tree.{Trees};
@@ -14,13 +15,29 @@ use society_rows::{Question, RowFault};
 use sqlite::{Alter, Transaction};
 use std::alloc::Global;
 use std::collections::BTreeMap;
-use work_ids::SenderKey;
+use work_ids::{SenderKey, TransmissionNumber};
 
 /// How far a sender came: its front, and the ends that it stated.
 #[derive(Drop)]
-pub(crate) struct Reach {
+pub struct Reach {
     front: u32,
     ends: SenderEnds,
+}
+
+impl Reach {
+    /// The sender's front, as a rank.
+    pub fn front(&self) -> u32
+        ensures { result ≡ self.now.front }
+    {
+        self.front
+    }
+
+    /// Whether a number of the sender is in its line up to the front.
+    pub fn is_in_line(&self, number: TransmissionNumber) -> bool
+        ensures { (db : Trees) (sender : List ℕ) → IsReach sender db self.now → OfLines (λ book. result ≡ is_applied book (transmission_key sender number)) db }
+    {
+        self.ends.is_in_line(self.front, number)
+    }
 }
 
 /// How far some senders came.
@@ -47,8 +64,11 @@ fn ends_of<S: Alter>(
     ends_in(tx, sender.as_bytes())
 }
 
-// How far a sender came.
-fn reach_of<S: Alter>(tx: &mut Transaction<'_, S>, sender: &SenderKey) -> Result<Reach, RowFault>
+/// How far a sender came; `Damaged` where the tables do not say it.
+pub fn reach_of<S: Alter>(
+    tx: &mut Transaction<'_, S>,
+    sender: &SenderKey,
+) -> Result<Reach, RowFault>
     ensures examined { Within S.Store tx.old tx.new (Examines HoldsNoLines) result (IsReach sender.now) }
 {
     let ends = ends_of(tx, sender)?;
@@ -87,7 +107,7 @@ impl Reached {
         ensures { (db : Trees) → KnowsReach db self.now → IsReachKnown key.now.sender self.now → OfLines (λ book. result ≡ is_applied book key.now) db }
     {
         match self.by_sender.get(&key.sender) {
-            Some(reach) => reach.ends.is_in_line(reach.front, key.number),
+            Some(reach) => reach.is_in_line(key.number),
             None => false,
         }
     }

@@ -11,8 +11,8 @@ use society_core::ReturnKey;
 use society_rows::{Question, RowFault};
 use sqlite::{Alter, Transaction};
 
-// Whether a return is there.
-fn is_there<S: Alter>(tx: &mut Transaction<'_, S>, key: &ReturnKey) -> Result<bool, RowFault>
+/// Whether a return is there.
+pub fn is_there<S: Alter>(tx: &mut Transaction<'_, S>, key: &ReturnKey) -> Result<bool, RowFault>
     ensures examined { Within S.Store tx.old tx.new (Examines Never) result (λ db told. OfLines (λ book. told ≡ is_some (return_at book key.now)) db) }
 {
     let rows = ask(

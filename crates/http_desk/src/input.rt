@@ -14,7 +14,7 @@ const FIRST_ROOM: usize = 65_536;
 
 /// Bytes that were read and not taken yet, and the turns that are left.
 #[derive(Drop)]
-pub(crate) struct Input {
+pub struct Input {
     bytes: Vec<u8>,
     start: usize,
     turns: u64,
@@ -30,7 +30,7 @@ impl Input {
     ghost use Rattle.http_text.specs.Reads.{small_request};
 
     /// No byte yet, with room for heads.
-    pub(crate) fn new(alloc: Global, turns: u64) -> Result<Input, AllocError>
+    pub fn new(alloc: Global, turns: u64) -> Result<Input, AllocError>
         ensures empty { IfOk result (λ input. unread input ≡ []) }
         ensures turns { IfOk result (λ input. input.turns ≡ turns) }
     {
@@ -43,14 +43,14 @@ impl Input {
     }
 
     /// The bytes, lent.
-    pub(crate) fn unread(&self) -> &[u8]
+    pub fn unread(&self) -> &[u8]
         ensures { result.now ≡ unread self.now }
     {
         &self.bytes[self.start..]
     }
 
     /// Takes bytes off the front.
-    pub(crate) fn take(&mut self, count: usize)
+    pub fn take(&mut self, count: usize)
         requires { count ≤ length (unread self.old) }
         ensures bytes { unread self.new ≡ drop count (unread self.old) }
         ensures turns { self.new.turns ≡ self.old.turns }
@@ -86,7 +86,7 @@ impl Input {
     }
 
     /// Makes room for so many bytes and a further piece; refused only where the first room is too small.
-    pub(crate) fn reserve(&mut self, size: usize) -> Result<(), AllocError>
+    pub fn reserve(&mut self, size: usize) -> Result<(), AllocError>
         requires { size < 2 ^ 40 }
         ensures bytes { unread self.new ≡ unread self.old }
         ensures turns { self.new.turns ≡ self.old.turns }
@@ -102,7 +102,7 @@ impl Input {
     }
 
     /// Reads where no byte is left here: whether there is one now. An error changes none of the bytes.
-    pub(crate) fn fill<R: Read>(&mut self, reader: &mut Counted<R>) -> Result<bool, FaultKind>
+    pub fn fill<R: Read>(&mut self, reader: &mut Counted<R>) -> Result<bool, FaultKind>
         ensures reads { ReadsWhere (λ bytes. bytes ≡ []) R.remaining reader.old reader.new self.old self.new }
         ensures one { self.old.turns ≤ self.new.turns + 1 }
         ensures some { IfOk result (λ gave. gave ≡ true → 1 ≤ length (unread self.new)) }
@@ -122,7 +122,7 @@ impl Input {
     }
 
     /// One read: whether it gave bytes. An error changes none of the bytes.
-    pub(crate) fn read_more<R: Read>(&mut self, reader: &mut Counted<R>) -> Result<bool, FaultKind>
+    pub fn read_more<R: Read>(&mut self, reader: &mut Counted<R>) -> Result<bool, FaultKind>
         requires { length (unread self.old) + max_piece ≤ vec_capacity self.old.bytes }
         ensures reads { ReadsFrom R.remaining reader.old reader.new self.old self.new }
         ensures room { vec_capacity self.old.bytes ≤ vec_capacity self.new.bytes }

@@ -18,4 +18,5 @@ mod upcoming;
 pub use connection::{Served, serve};
 pub use counted::{Counted, NotWritten};
 pub use fault::{DeskFault, FaultKind};
+pub use input::Input;
 pub use laws::{one_cutting, what_was_answered_stays};

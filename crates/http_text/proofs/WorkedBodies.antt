@@ -20,7 +20,7 @@ use Rattle.society_core.specs.declared.end_fault.EndFault.TheVariants as ends
 use Rattle.society_core.specs.declared.order_fault.OrderFault.TheVariants.{NamedTwice, OutOfRange, Shape}
 use Rattle.http_text.specs.EndText.{end_numbers_in, state_asked}
 use Rattle.http_text.specs.Json.{balance_json_text, number_json, sender_json_text, title_text, verdicts_json_text}
-use Rattle.http_text.specs.OrderText.{close_asked, numbers_in}
+use Rattle.http_text.specs.OrderText.{close_asked, order_in}
 use Rattle.http_text.specs.Table.{table_text}
 
 two_held : sender_json_text 0 (2 ∷ 3 ∷ []) ≡ codes "{\"front\":0,\"held\":[2,3]}"
@@ -63,7 +63,7 @@ quoted_account = refl
 
 -- what a text of ASCII asks of pool 7
 abbrev close_of : List ℕ → Query
-close_of text = close_asked 7 (option_and_then numbers_in (read text))
+close_of text = close_asked 7 (order_in (read text))
 
 an_array : close_of (codes "[]") ≡ ClosesFaulty Shape
 unfolding serde_json_on_literals

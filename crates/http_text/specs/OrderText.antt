@@ -1,5 +1,5 @@
 -- The shape of an order that is spelled in JSON, and what a close by it asks (profile).
-use Rattle.std.specs.Prelude.{ℕ, Bool, false, List, [], ◌∷◌, ◌==◌, bytes_eq, codes, if◌then◌else◌, Option, Some, None, is_some, option_and_then, unwrap_or}
+use Rattle.std.specs.Prelude.{ℕ, Bool, false, List, [], ◌∷◌, ◌+◌, ◌==◌, Result, Ok, Err, bytes_eq, codes, if◌then◌else◌, Option, Some, None, is_some, option_and_then, unwrap_or}
 use Rattle.std.specs.Option.{option_map, option_zip}
 use Rattle.std.specs.Result.{result_ok}
 use Rattle.serde_json.specs.Data.{Data, Items, no_items, item}
@@ -12,7 +12,7 @@ use Rattle.work_ids.specs.SenderKey.{sender_key_of}
 use Rattle.work_ids.specs.SpelledNumber.{dated_in_text, transmission_number_spelled}
 use Rattle.work_ids.specs.declared.spelled_number.SpelledNumber.{SpelledNumber}
 use Rattle.work_ids.specs.declared.spelled_number.SpelledNumber.TheVariants.{Plain}
-use Rattle.society_core.specs.Orders.{order_fault, order_of}
+use Rattle.society_core.specs.Orders.{Order, order_fault, order_of}
 use Rattle.society_core.specs.Requests.{Query, Closes, ClosesFaulty}
 use Rattle.society_core.specs.declared.order_fault.OrderFault.{OrderFault}
 use Rattle.society_core.specs.declared.order_fault.OrderFault.TheVariants.{Shape}
@@ -129,24 +129,37 @@ cut_in value = option_and_then (named_numbers_in sender_named) (get (codes "cut"
 abbrev pub returns_in : Data → Option (List (List ℕ × ℕ))
 returns_in value = option_and_then (named_numbers_in return_named) (get (codes "returns") value)
 
--- what an object spells: its members are the amount, the cut and the returns, the kind where it names one, and no others
-abbrev pub numbers_in : Data → Option OrderNumbers
-numbers_in value =
-    if has_members (members_of_order value) (as_object value)
+-- what an object spells: its members are the amount, the cut and the returns, the kind where it names one, and so many others
+abbrev pub numbers_with : ℕ → Data → Option OrderNumbers
+numbers_with more value =
+    if has_members (members_of_order value + more) (as_object value)
     then numbers_by (kind_in value) (whole_member (codes "amount") value) (cut_in value) (returns_in value)
     else None
 
--- what numbers without that fault ask of a pool
-abbrev pub close_by_numbers : ℕ → OrderNumbers → Option OrderFault → Query
-close_by_numbers pool numbers None = Closes pool (order_of numbers.kind numbers.amount numbers.cut numbers.returns)
-close_by_numbers pool numbers (Some fault) = ClosesFaulty fault
+-- the order of numbers without that fault
+abbrev pub order_by_numbers : OrderNumbers → Option OrderFault → Result Order OrderFault
+order_by_numbers numbers None = Ok (order_of numbers.kind numbers.amount numbers.cut numbers.returns)
+order_by_numbers numbers (Some fault) = Err fault
 
--- what an order asks of a pool: another shape is a fault
-abbrev pub close_asked : ℕ → Option OrderNumbers → Query
-close_asked pool (Some numbers) =
-    close_by_numbers pool numbers (order_fault numbers.amount numbers.cut numbers.returns)
-close_asked pool None = ClosesFaulty Shape
+-- the order of what is spelled, or its least fault: another shape is one
+abbrev pub order_spelled : Option OrderNumbers → Result Order OrderFault
+order_spelled (Some numbers) = order_by_numbers numbers (order_fault numbers.amount numbers.cut numbers.returns)
+order_spelled None = Err Shape
+
+-- the order that an object spells with so many members more, or its least fault
+abbrev pub order_with : ℕ → Data → Result Order OrderFault
+order_with more value = order_spelled (numbers_with more value)
+
+-- the order that JSON spells, or its least fault: no JSON is another shape
+abbrev pub order_in : Option Data → Result Order OrderFault
+order_in (Some value) = order_with 0 value
+order_in None = Err Shape
+
+-- what an order asks of a pool, or its fault
+abbrev pub close_asked : ℕ → Result Order OrderFault → Query
+close_asked pool (Ok order) = Closes pool order
+close_asked pool (Err fault) = ClosesFaulty fault
 
 -- what the put of a pool asks by its body
 unfoldable pub close_query : ℕ → List ℕ → Query
-close_query pool body = close_asked pool (option_and_then numbers_in (json_of body))
+close_query pool body = close_asked pool (order_in (json_of body))

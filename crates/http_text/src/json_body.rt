@@ -9,7 +9,7 @@ use serde_json::Value;
 use std::alloc::{AllocError, Global};
 
 /// The value that a body is, where it is JSON in UTF-8.
-pub(crate) fn value_of(alloc: Global, body: &[u8]) -> Result<Option<Value>, AllocError>
+pub fn value_of(alloc: Global, body: &[u8]) -> Result<Option<Value>, AllocError>
     ensures { IfOk result (λ value. option_map view value ≡ json_of body.now) }
 {
     match Value::from_slice(alloc, body) {

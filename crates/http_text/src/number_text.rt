@@ -36,7 +36,7 @@ pub(crate) fn segment_named(text: &[u8]) -> Option<Segment>
 }
 
 /// The text of a number of a year, given by its rank: the last two digits of the year, a hyphen and four digits.
-pub(crate) fn dated_text_of(rank: u32) -> [u8; 7]
+pub fn dated_text_of(rank: u32) -> [u8; 7]
     requires { 1000000 ≤ rank }
     ensures { result ≡ dated_text ((rank - 1000000) / 10000) ((rank - 1000000) % 10000) }
 {

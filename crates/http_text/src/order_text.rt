@@ -1,11 +1,11 @@
 //! Orders that are spelled in JSON.
-ghost use Rattle.std.specs.Prelude.{◌≡◌, option_and_then, IfOk};
+ghost use Rattle.std.specs.Prelude.{◌≡◌, ◌<◌, IfOk};
 ghost use Rattle.std.specs.Option.{option_map};
 ghost use Rattle.serde_json.specs.Find.{as_array};
 ghost use Rattle.serde_json.specs.View.{view};
 ghost use Rattle.society_core.specs.Requests.{query_of};
-ghost use Rattle.http_text.specs.JsonBodies.{json_of, whole_in};
-ghost use Rattle.http_text.specs.OrderText.{are_two, close_query, kind_in, kind_named, members_of_order, named_numbers_in, numbers_in, pair_in, rank_in_value, rank_spelled, return_named, sender_named, spelled_in};
+ghost use Rattle.http_text.specs.JsonBodies.{whole_in};
+ghost use Rattle.http_text.specs.OrderText.{are_two, close_query, kind_in, kind_named, members_of_order, named_numbers_in, numbers_with, order_with, pair_in, rank_in_value, rank_spelled, return_named, sender_named, spelled_in};
 ghost use Rattle.http_text.specs.OrderRead.{numbers_read};
 
 use crate::json_body::{has_members, value_of, whole_member};
@@ -189,11 +189,12 @@ fn members_of_order(value: &Value) -> usize
     }
 }
 
-// The kind and the numbers of an order, where the value has the shape of one.
-fn numbers_of(alloc: Global, value: &Value) -> Result<Option<Numbers>, AllocError>
-    ensures { IfOk result (λ numbers. option_map numbers_read numbers ≡ numbers_in (view value.now)) }
+// The kind and the numbers of an order, where the value has the shape of one with so many members more.
+fn numbers_of(alloc: Global, value: &Value, more: usize) -> Result<Option<Numbers>, AllocError>
+    requires { more < 1000 }
+    ensures { IfOk result (λ numbers. option_map numbers_read numbers ≡ numbers_with more (view value.now)) }
 {
-    if !has_members(value, members_of_order(value)) {
+    if !has_members(value, members_of_order(value) + more) {
         return Ok(None);
     }
     let Some(kind) = kind_of(value) else {
@@ -222,15 +223,29 @@ fn numbers_of(alloc: Global, value: &Value) -> Result<Option<Numbers>, AllocErro
     }))
 }
 
-// The kind and the numbers that a body spells.
-fn numbers_in(alloc: Global, body: &[u8]) -> Result<Option<Numbers>, AllocError>
-    ensures { IfOk result (λ numbers. option_map numbers_read numbers
-        ≡ option_and_then numbers_in (json_of body.now)) }
+/// The order that a value spells with so many members more, or its least fault. `AllocError` where memory is refused.
+pub fn order_with(
+    alloc: Global,
+    value: &Value,
+    more: usize,
+) -> Result<Result<PoolOrder, OrderFault>, AllocError>
+    requires { more < 1000 }
+    ensures { IfOk result (λ order. order ≡ order_with more (view value.now)) }
 {
-    let Some(value) = value_of(alloc, body)? else {
-        return Ok(None);
+    let Some(numbers) = numbers_of(alloc, value, more)? else {
+        return Ok(Err(OrderFault::Shape));
     };
-    numbers_of(alloc, &value)
+    match PoolOrder::new(
+        alloc,
+        numbers.kind,
+        numbers.amount,
+        &numbers.cut,
+        &numbers.returns,
+    ) {
+        Ok(order) => Ok(Ok(order)),
+        Err(OrderError::Order(fault)) => Ok(Err(fault)),
+        Err(OrderError::Memory) => Err(AllocError),
+    }
 }
 
 /// What a put of a pool asks by its body: to close it by an order, or its least fault. `AllocError` where memory is
@@ -242,20 +257,13 @@ pub(crate) fn close_by<'b>(
 ) -> Result<Request<'b>, AllocError>
     ensures { IfOk result (λ request. query_of request ≡ close_query pool body.now) }
 {
-    let Some(numbers) = numbers_in(alloc, body)? else {
+    let Some(value) = value_of(alloc, body)? else {
         return Ok(Request::FaultyOrder {
             fault: OrderFault::Shape,
         });
     };
-    match PoolOrder::new(
-        alloc,
-        numbers.kind,
-        numbers.amount,
-        &numbers.cut,
-        &numbers.returns,
-    ) {
+    match order_with(alloc, &value, 0)? {
         Ok(order) => Ok(Request::ClosePool { pool, order }),
-        Err(OrderError::Order(fault)) => Ok(Request::FaultyOrder { fault }),
-        Err(OrderError::Memory) => Err(AllocError),
+        Err(fault) => Ok(Request::FaultyOrder { fault }),
     }
 }

@@ -11,8 +11,8 @@ use pool_split::Credit;
 use std::alloc::{AllocError, Global};
 use work_ids::{Account, Isrc};
 
-// Puts the text of an account into a scratch.
-fn set_account(scratch: &mut Vec<u8>, account: &Account) -> Result<(), AllocError>
+/// Puts the text of an account into a scratch.
+pub fn set_account(scratch: &mut Vec<u8>, account: &Account) -> Result<(), AllocError>
     ensures { OnOk result (scratch.new.items ≡ account_text account.now) }
 {
     let (kind, owner, number) = account.pieces();
@@ -32,8 +32,8 @@ fn isrc_text(isrc: &Option<Isrc>) -> &[u8]
     }
 }
 
-// Writes one row.
-fn put_row(table: &mut Writer<Vec<u8>>, fields: &[&[u8]]) -> Result<(), AllocError>
+/// Writes one row.
+pub fn put_row(table: &mut Writer<Vec<u8>>, fields: &[&[u8]]) -> Result<(), AllocError>
     ensures { OnOk result (AddsRow table.old table.new (map (λ field. field.now) fields.now)) }
 {
     match table.write_fields(fields) {

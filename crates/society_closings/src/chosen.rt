@@ -44,8 +44,9 @@ fn last_up_to(rows: &[Row], cut: TransmissionNumber) -> Result<Option<WorkVersio
     Ok(last)
 }
 
-// The version that a sender's work has at the sender's cut, none where it has none.
-fn version_at<S: Alter>(
+/// The version that a sender's work has at the sender's cut, none where it has none. Where the disk told the truth, an error says that
+/// memory ran out, that the medium may have failed, or that the tables have the works of no book.
+pub fn version_at<S: Alter>(
     tx: &mut Transaction<'_, S>,
     key: &TransmissionKey,
     work: &WorkNumber,

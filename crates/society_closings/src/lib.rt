@@ -18,9 +18,10 @@ mod weighed_works;
 mod weighing;
 mod works_by_recording;
 
+pub use chosen::version_at;
 pub use credit_lines::{add_lines, line_rows, texts_of};
 pub use cut_works::candidates_in;
-pub use paying::{close, portions_in};
+pub use paying::{close, portions_in, tally_of};
 pub use pool_works::PoolWorks;
 pub use wanted::Wanted;
 pub use weighing::place_after;

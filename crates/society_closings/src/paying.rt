@@ -61,8 +61,9 @@ fn add_return<S: Alter>(
     add_performances(alloc, rows.as_slice(), tally)
 }
 
-/// The tally of all performances of these returns.
-pub(crate) fn tally_of<S: Alter>(
+/// The tally of all performances of these returns. Where the disk told the truth, an error says that memory ran out, that a count has no
+/// room, that the medium may have failed, or that no book whose works the tables have has all of them.
+pub fn tally_of<S: Alter>(
     alloc: Global,
     tx: &mut Transaction<'_, S>,
     returns: &[ReturnKey],

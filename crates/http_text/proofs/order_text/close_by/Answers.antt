@@ -1,23 +1,15 @@
-use Rattle.std.proofs.Common.{sym, refl}
-use Rattle.http_text.specs.OrderRead.{numbers_read}
-use Rattle.http_text.specs.OrderText.{close_query}
-use Rattle.http_text.proofs.lemmas.OrderLemmas.{closes_faulty, closes_ordered}
+use Rattle.std.proofs.Common.{◌∙◌, ap, sym, refl}
+use Rattle.http_text.specs.OrderText.{close_asked, close_query}
 use Rattle.http_text.proofs.order_text.close_by.Goals as goal
 
 pub returns-in_default : goal.returns-in_default
 unfolding close_query
-returns-in_default c = rw (sym c.in_ok-numbers.ensures, c.in_default.is) refl
+returns-in_default c = rw (sym c.in_ok-value.ensures, c.in_default.is) refl
 
 pub returns-in-Ok : goal.returns-in-Ok
 unfolding close_query
-returns-in-Ok c =
-    let made = rw (c.deref.ensures.value, c.deref-2.ensures.value) at c.in-Ok.ensures in
-    rw (sym c.in_ok-numbers.ensures, c.in-Some.is) (closes_ordered c.args.pool (numbers_read c.in-Some.numbers) c.in-Ok.order made.0 made.1)
+returns-in-Ok c = rw (sym c.in_ok-value.ensures, c.in-Some.is) (ap (close_asked c.args.pool) (sym c.in-Ok.is ∙ c.in_ok-order.ensures))
 
-pub returns-in-Err-Order : goal.returns-in-Err-Order
+pub returns : goal.returns
 unfolding close_query
-returns-in-Err-Order c =
-    let fault = c.in-Err-Order in
-    let made = rw (fault.field-0-is, c.deref.ensures.value, c.deref-2.ensures.value) at fault.ensures in
-    rw (fault.fault-is, sym c.in_ok-numbers.ensures, c.in-Some.is)
-    (closes_faulty c.args.pool (numbers_read c.in-Some.numbers) fault.fault made)
+returns c = rw (sym c.in_ok-value.ensures, c.in-Some.is) (ap (close_asked c.args.pool) (sym c.in-Err.is ∙ c.in_ok-order.ensures))
