@@ -4,7 +4,7 @@ use Rattle.clap.proofs.OnLiterals.{clap_on_literals}
 use Rattle.clap.specs.Faults.{is_simple_and_free}
 use Rattle.clap.specs.Simple.{is_simple}
 use Rattle.society_arguments.specs.CommandLine.{command_line}
-use Rattle.society_arguments.specs.Words.{AsksAudit, AsksHelp, AsksReplay, AsksServe, HasBadName, HasBadWords, asked}
+use Rattle.society_arguments.specs.Words.{AsksAudit, AsksCredit, AsksHelp, AsksReplay, AsksServe, HasBadName, HasBadWords, asked}
 
 pub simple : is_simple command_line ≡ true
 unfolding clap_on_literals
@@ -184,3 +184,27 @@ audit_existing = refl
 help_of_the_audit : asked (codes "society" ∷ codes "audit" ∷ codes "--help" ∷ []) ≡ AsksHelp
 unfolding clap_on_literals
 help_of_the_audit = refl
+
+credit : asked (codes "society" ∷ codes "credit" ∷ codes "--db" ∷ codes "office.db" ∷ codes "--society" ∷ codes "900" ∷ codes "--territory" ∷ codes "40" ∷ codes "--name" ∷ codes "X" ∷ []) ≡ AsksCredit (codes "office.db") 900 40 (codes "X")
+unfolding clap_on_literals
+credit = refl
+
+credit_turned : asked (codes "society" ∷ codes "credit" ∷ codes "--society" ∷ codes "900" ∷ codes "--territory" ∷ codes "40" ∷ codes "--name" ∷ codes "X" ∷ codes "--db=office.db" ∷ []) ≡ AsksCredit (codes "office.db") 900 40 (codes "X")
+unfolding clap_on_literals
+credit_turned = refl
+
+credit_without_a_database : asked (codes "society" ∷ codes "credit" ∷ codes "--society" ∷ codes "900" ∷ codes "--territory" ∷ codes "40" ∷ codes "--name" ∷ codes "X" ∷ []) ≡ HasBadWords
+unfolding clap_on_literals
+credit_without_a_database = refl
+
+credit_at_a_port : asked (codes "society" ∷ codes "credit" ∷ codes "--db" ∷ codes "office.db" ∷ codes "--port" ∷ codes "8080" ∷ codes "--society" ∷ codes "900" ∷ codes "--territory" ∷ codes "40" ∷ codes "--name" ∷ codes "X" ∷ []) ≡ HasBadWords
+unfolding clap_on_literals
+credit_at_a_port = refl
+
+credit_existing : asked (codes "society" ∷ codes "credit" ∷ codes "--existing" ∷ codes "--db" ∷ codes "office.db" ∷ codes "--society" ∷ codes "900" ∷ codes "--territory" ∷ codes "40" ∷ codes "--name" ∷ codes "X" ∷ []) ≡ HasBadWords
+unfolding clap_on_literals
+credit_existing = refl
+
+help_of_the_credit : asked (codes "society" ∷ codes "credit" ∷ codes "--help" ∷ []) ≡ AsksHelp
+unfolding clap_on_literals
+help_of_the_credit = refl

@@ -47,8 +47,12 @@ serve_command = with_office (with_place (with_rule (over_database (codes "serve"
 abbrev pub audit_command : App
 audit_command = with_office (over_database (codes "audit"))
 
--- the program: one of its three commands is to be given; no command is named `help`
+-- `credit`, with the path of a database, and an office (profile)
+abbrev pub credit_command : App
+credit_command = with_office (over_database (codes "credit"))
+
+-- the program: one of its four commands is to be given; no command is named `help`
 abbrev pub command_line : App
 command_line =
     let top = on_top (λ s. record s { subcommand_required = true; disable_help_subcommand = true }) (new_app (codes "society")) in
-    with_subcommand (with_subcommand (with_subcommand top replay_command.top) serve_command.top) audit_command.top
+    with_subcommand (with_subcommand (with_subcommand (with_subcommand top replay_command.top) serve_command.top) audit_command.top) credit_command.top

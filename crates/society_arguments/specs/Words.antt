@@ -32,11 +32,12 @@ number_given bits option rows = option_and_then (number_spelled bits) (one_of op
 abbrev pub flag_given : Text → List Row → Bool
 flag_given option rows = option_map_or (λ text. bytes_eq text (codes "true")) (first_of option rows) false
 
--- what words ask for: to replay at the office with this society, territory and name; to serve connections there at a place, over the database of a path, which has to be there already or not; to audit that database as the office's; to be told of the words; else the name is none, or the words are none that the program knows
+-- what words ask for: to replay at the office with this society, territory and name; to serve connections there at a place, over the database of a path, which has to be there already or not; to audit that database as the office's; to tell what orders would credit over it; to be told of the words; else the name is none, or the words are none that the program knows
 pub data Asked : Type 0 where
   AsksReplay : ℕ → ℕ → Text → Asked
   AsksServe : Text → Bool → Listening → ℕ → ℕ → Text → Asked
   AsksAudit : Text → ℕ → ℕ → Text → Asked
+  AsksCredit : Text → ℕ → ℕ → Text → Asked
   AsksHelp : Asked
   HasBadName : Asked
   HasBadWords : Asked
@@ -86,11 +87,21 @@ auditing None asked = HasBadWords
 abbrev pub asked_audit : List Row → Asked
 asked_audit rows = auditing (first_of (codes "db") rows) (asked_office rows)
 
+-- to tell what orders would credit over the database of a path; the rest names an office
+abbrev pub crediting : Option Text → Asked → Asked
+crediting (Some path) asked = at_office (AsksCredit path) asked
+crediting None asked = HasBadWords
+
+-- what options of `credit` ask for
+abbrev pub asked_credit : List Row → Asked
+asked_credit rows = crediting (first_of (codes "db") rows) (asked_office rows)
+
 -- what a command asks for with its options
 abbrev pub asked_command : Text → List Row → Asked
 asked_command command rows =
     if bytes_eq command (codes "serve") then asked_serve rows
-    else (if bytes_eq command (codes "audit") then asked_audit rows else asked_office rows)
+    else (if bytes_eq command (codes "audit") then asked_audit rows
+    else (if bytes_eq command (codes "credit") then asked_credit rows else asked_office rows))
 
 -- what words ask for that the command line takes, by the command in them
 abbrev pub asked_in : Option (Text × List Row) → Asked
@@ -124,6 +135,7 @@ abbrev pub IsReadAs : Asked → Words → Type 0
 IsReadAs (AsksReplay society territory name) (words.Replay office) = IsOfficeOf society territory name office
 IsReadAs (AsksServe path existing place society territory name) (words.Serve database read office) = IsDatabaseOf path existing database × (read ≡ place) × IsOfficeOf society territory name office
 IsReadAs (AsksAudit path society territory name) (words.Audit opened office) = (opened.now ≡ path) × IsOfficeOf society territory name office
+IsReadAs (AsksCredit path society territory name) (words.Credit opened office) = (opened.now ≡ path) × IsOfficeOf society territory name office
 IsReadAs HasBadName words.BadName = Unit {0}
 IsReadAs HasBadWords words.BadWords = Unit {0}
 IsReadAs _ _ = ⊥
@@ -158,6 +170,11 @@ abbrev pub AsksToAudit : Asked → Text → Office → Type 0
 AsksToAudit (AsksAudit asked society territory name) path office = (path ≡ asked) × IsOfficeOf society territory name office
 AsksToAudit _ path office = ⊥
 
+-- the words ask what orders would credit over the database of this path as this office's
+abbrev pub AsksToCredit : Asked → Text → Office → Type 0
+AsksToCredit (AsksCredit asked society territory name) path office = (path ≡ asked) × IsOfficeOf society territory name office
+AsksToCredit _ path office = ⊥
+
 -- the words ask for a replay
 abbrev pub WantsReplay : Asked → Type 0
 WantsReplay (AsksReplay society territory name) = Unit {0}
@@ -173,6 +190,11 @@ abbrev pub WantsAudit : Asked → Type 0
 WantsAudit (AsksAudit path society territory name) = Unit {0}
 WantsAudit _ = ⊥
 
+-- the words ask what orders would credit
+abbrev pub WantsCredit : Asked → Type 0
+WantsCredit (AsksCredit path society territory name) = Unit {0}
+WantsCredit _ = ⊥
+
 -- where the words ask for a replay, and it ended with this status, this holds of the office that they name
 abbrev pub EndsReplay : {E : Type 0} → Asked → ℕ → Result ℕ E → (Office → Type 0) → Type 0
 EndsReplay asked status result IsDone = WantsReplay asked → IfOk result (λ s. s ≡ status → (office : Office) × AsksToReplay asked office × IsDone office)
@@ -184,6 +206,10 @@ EndsServing asked status result IsDone = WantsServing asked → IfOk result (λ 
 -- where they ask to audit, and that ended with this status, this holds of the path and the office that they name
 abbrev pub EndsAudit : {E : Type 0} → Asked → ℕ → Result ℕ E → (Text → Office → Type 0) → Type 0
 EndsAudit asked status result IsDone = WantsAudit asked → IfOk result (λ s. s ≡ status → (path : Text) × (office : Office) × AsksToAudit asked path office × IsDone path office)
+
+-- where they ask what orders would credit, and that ended with this status, this holds of the path and the office that they name
+abbrev pub EndsCredit : {E : Type 0} → Asked → ℕ → Result ℕ E → (Text → Office → Type 0) → Type 0
+EndsCredit asked status result IsDone = WantsCredit asked → IfOk result (λ s. s ≡ status → (path : Text) × (office : Office) × AsksToCredit asked path office × IsDone path office)
 
 -- the words are wrong, or the name is
 abbrev pub IsWrong : Asked → Type 0

@@ -2,7 +2,7 @@
 ghost use Rattle.std.specs.Prelude.{◌≡◌, IfOk, false};
 ghost use Rattle.clap.specs.Words.{app_of, rule_of};
 ghost use Rattle.clap.specs.declared.builder.command.Command.TheViews.{out-Command as fields_of};
-ghost use Rattle.society_arguments.specs.CommandLine.{audit_command, command_line, flag, over_database, replay_command, required_option, serve_command, with_office, with_place};
+ghost use Rattle.society_arguments.specs.CommandLine.{audit_command, command_line, credit_command, flag, over_database, replay_command, required_option, serve_command, with_office, with_place};
 
 use clap::{Arg, ArgAction, Command, value_parser};
 use std::alloc::{AllocError, Global};
@@ -19,7 +19,7 @@ const MAX_PORT: i64 = 65_535;
 /// Most connections of one run.
 const MAX_CONNECTIONS: i64 = 1_000_000;
 
-/// The command line of the program: `replay`, `serve` or `audit`, each with its options in any order.
+/// The command line of the program: `replay`, `serve`, `audit` or `credit`, each with its options in any order.
 pub fn command_line<'a>(alloc: Global) -> Result<Command<'a>, AllocError>
     ensures { IfOk result (λ r. app_of r ≡ command_line) }
 {
@@ -29,7 +29,8 @@ pub fn command_line<'a>(alloc: Global) -> Result<Command<'a>, AllocError>
         .disable_help_subcommand(true)
         .subcommand(replay_command(alloc)?)?
         .subcommand(serve_command(alloc)?)?
-        .subcommand(audit_command(alloc)?)
+        .subcommand(audit_command(alloc)?)?
+        .subcommand(credit_command(alloc)?)
 }
 
 // Answers on standard output what came on standard input.
@@ -64,6 +65,19 @@ fn audit_command<'a>(alloc: Global) -> Result<Command<'a>, AllocError>
         alloc,
         "audit",
         "Tell whether a file holds the office's book, and write nothing to it",
+        "File of the office's database",
+    )?;
+    with_office(alloc, command)
+}
+
+// Tells what orders would credit.
+fn credit_command<'a>(alloc: Global) -> Result<Command<'a>, AllocError>
+    ensures { IfOk result (λ r. (app_of r ≡ credit_command) × ((fields_of r).has_globals ≡ false)) }
+{
+    let command = over_database(
+        alloc,
+        "credit",
+        "Tell what the orders on standard input would credit, and why",
         "File of the office's database",
     )?;
     with_office(alloc, command)

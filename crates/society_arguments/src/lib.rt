@@ -1,4 +1,5 @@
-//! What the program's arguments ask for: to replay, to serve a database or to audit one, each at an office, or to tell of the arguments.
+//! What the program's arguments ask for: to replay, to serve a database, to audit one or to credit orders over one, each at an
+//! office, or to tell of the arguments.
 #![tactic(auto)]
 
 mod command_line;

@@ -1,7 +1,7 @@
 //! What the program's arguments ask for, as `clap` has read them.
 ghost use Rattle.std.specs.Prelude.{◌≡◌, IfErr, IfOk, Some, map, string_bytes};
 ghost use Rattle.clap.specs.Words.{found_of, kind_of, rows_of};
-ghost use Rattle.society_arguments.specs.Words.{Asked, IsReadAs, IsRefusedAs, asked, asked_at, asked_audit, asked_command, asked_office, asked_serve, auditing, flag_given, number_given, place_given, serving};
+ghost use Rattle.society_arguments.specs.Words.{Asked, IsReadAs, IsRefusedAs, asked, asked_at, asked_audit, asked_command, asked_credit, asked_office, asked_serve, auditing, crediting, flag_given, number_given, place_given, serving};
 
 use crate::command_line::command_line;
 use clap::{ArgMatches, Error};
@@ -35,6 +35,8 @@ pub enum Words<'a> {
     Serve(Database<'a>, Listening, Office),
     /// To audit the database of a path as this office's.
     Audit(&'a str, Office),
+    /// To tell what orders on standard input would credit over the database of a path as this office's.
+    Credit(&'a str, Office),
     /// The office's name is none.
     BadName,
     /// Nothing that the program knows.
@@ -121,6 +123,16 @@ fn audit_at<'a>(path: &'a str, words: Words<'a>) -> Words<'a>
     }
 }
 
+/// To credit orders over the database of a path as that of the office that the words name.
+fn credit_at<'a>(path: &'a str, words: Words<'a>) -> Words<'a>
+    ensures { (a : Asked) → IsReadAs a words.entry → IsReadAs (crediting (Some path.entry.now) a) result }
+{
+    match words {
+        Words::Replay(office) => Words::Credit(path, office),
+        other => other,
+    }
+}
+
 /// To serve as options say.
 fn serve_in<'a>(options: &ArgMatches<'a>) -> Words<'a>
     ensures { IsReadAs (asked_serve (rows_of (found_of options.entry.now))) result }
@@ -145,6 +157,16 @@ fn audit_in<'a>(options: &ArgMatches<'a>) -> Words<'a>
     }
 }
 
+/// To credit orders as options say.
+fn credit_in<'a>(options: &ArgMatches<'a>) -> Words<'a>
+    ensures { IsReadAs (asked_credit (rows_of (found_of options.entry.now))) result }
+{
+    match options.get_str("db") {
+        Some(path) => credit_at(path, office_in(options)),
+        None => Words::BadWords,
+    }
+}
+
 /// What a command asks for with these options.
 fn command_in<'a>(command: &str, options: &ArgMatches<'a>) -> Words<'a>
     ensures { IsReadAs (asked_command command.now (rows_of (found_of options.entry.now))) result }
@@ -152,6 +174,7 @@ fn command_in<'a>(command: &str, options: &ArgMatches<'a>) -> Words<'a>
     match command {
         "serve" => serve_in(options),
         "audit" => audit_in(options),
+        "credit" => credit_in(options),
         _ => office_in(options),
     }
 }

@@ -1,6 +1,7 @@
 -- What is proved of the definitions, for the proofs of functions.
 pub mod ClosingLemmas
 pub mod ConnectionLemmas
+pub mod CreditLemmas
 pub mod DatabaseLemmas
 pub mod ReplayLemmas
 pub mod TableLemmas

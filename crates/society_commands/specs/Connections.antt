@@ -19,7 +19,7 @@ use Rattle.society_rows.specs.NewBook.{IsBare}
 use Rattle.society_rows.specs.Stored.{HasLayout}
 use Rattle.society_rows.specs.declared.older.OlderLayout.{OlderLayout}
 use Rattle.society_book.specs.BookRows.{book_of}
-use Rattle.society_opening.specs.Existing.{FindsSoundly, SurvivesTaking, WhenOpen}
+use Rattle.society_opening.specs.Existing.{FindsSoundly, IsSoundIn, SurvivesTaking, WhenOpen}
 use Rattle.society_opening.specs.Older.{HoldsOne, Takes}
 use Rattle.society_opening.specs.Opening.{HasAnyLayout, IsOpenable, ShowsAs, SurvivesOpening, TellsDatabase}
 use Rattle.society_opening.specs.declared.open_fault.OpenFault.{OpenFault}
@@ -34,7 +34,7 @@ use Rattle.society_commands.specs.declared.left.Left.TheVariants as left
 use Rattle.society_commands.specs.declared.opening.Job.{Job}
 use Rattle.society_commands.specs.declared.trouble.Trouble.{Trouble}
 use Rattle.society_commands.specs.declared.trouble.Trouble.TheVariants.{Database, NoConnection, NoListener}
-use Rattle.society_arguments.specs.Words.{Asked, AsksAudit, AsksServe, Serving, serving_of}
+use Rattle.society_arguments.specs.Words.{Asked, AsksAudit, AsksCredit, AsksServe, Serving, serving_of}
 
 -- what is served by a job at an office
 abbrev pub serving_as : Job → Office → Serving
@@ -149,6 +149,30 @@ FindsUnsound {F = F} {g = g} opens opener path office out new_out Told rest =
     × ((ended : Held (FileStore F g)) × TellsUnsound office (file_state conn) (file_state ended) Told × (rest ≡ left.Connection ended))))
     × (new_out ≡ out)
 
+-- readings leave a connection at rest as it was: what was committed is shown still, and a crash leaves what it left before
+pub record KeepsShown (old new : connection.State) : Type 0 where
+  pub was_open : connection.HasCleanDisk new → IsTrue new.is_open → IsTrue old.is_open
+  pub shown : connection.HasCleanDisk new → IsTrue new.is_open → (new.now ≡ old.committed) × (new.committed ≡ old.committed)
+  pub crash : connection.Survives old new (λ db. ⊥)
+
+-- What telling of orders leaves of a database that a connection was found with: what was committed is shown still, and is a sound book of
+-- the office, of layout 3, where all were answered; a crash leaves what it left before.
+pub record CreditsOver (office : Office) (found left : connection.State) (status : ℕ) : Type 0 where
+  pub shown : WhenOpen found left (ShowsAs found.committed left)
+  pub sound : status ≡ 0 → WhenOpen found left (IsSoundIn office found.committed)
+  pub crash : connection.Survives found left (λ db. ⊥)
+
+-- a database that was there was opened at a path, orders were told of over it with this status, and its connection is left
+abbrev pub CreditsOpened : {O F : Type 0} {g : disk.Ghosts F} → Opens O F → List ℕ → Office → ℕ → Left F O g → Type 0
+CreditsOpened {F = F} {g = g} opens path office status rest =
+    (conn : Held (FileStore F g)) × IsOpenedAt opens path true conn
+    × ((ended : Held (FileStore F g)) × CreditsOver office (file_state conn) (file_state ended) status × (rest ≡ left.Connection ended))
+
+-- no database was opened at a path to tell of orders, and this was told, and nothing written; or one was, and not all was done
+abbrev pub StopsCrediting : {O F W : Type 0} {g : disk.Ghosts F} → Opens O F → O → List ℕ → Office → Counted W → Counted W → (Trouble → Type 0) → Left F O g → Type 0
+StopsCrediting opens opener path office out new_out Told rest =
+    ((fault : OpenFault) × LeavesRefused opens opener path true fault rest × Told (Database fault) × (new_out ≡ out)) ⊎ CreditsOpened opens path office 1 rest
+
 -- so many connections were served over a store that was opened over what a connection was found with, and this is the store behind them
 abbrev pub ServesDatabase : {N D R V S W : Type 0} → Network N D R V → (S → State) → Office → Bool → connection.State → S → (W → Option (List ℕ)) → Counted W → Counted W → Listening → Type 0
 ServesDatabase {S = S} net state office existing found ended contents out new_out place =
@@ -187,8 +211,9 @@ StopsServingOpened {F = F} {S = S} {g = g} state conn_of net opens opener s cont
     × ((ended : Result S (Held (FileStore F g))) × LeavesBroken file_state net state s conn ended contents out new_out Told
     × HandsBack state conn_of ended rest))
 
--- but to serve a database or to audit one, words ask to open nothing: the opener is left as it was given
+-- but to serve a database, to audit one or to tell of orders over one, words ask to open nothing: the opener is left as it was given
 abbrev pub UsesNothing : {F O : Type 0} {g : disk.Ghosts F} → Asked → O → Left F O g → Type 0
 UsesNothing (AsksServe path existing place society territory name) opener rest = ⊤
 UsesNothing (AsksAudit path society territory name) opener rest = ⊤
+UsesNothing (AsksCredit path society territory name) opener rest = ⊤
 UsesNothing asked opener rest = IsUnused opener rest

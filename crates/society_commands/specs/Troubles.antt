@@ -11,7 +11,7 @@ use Rattle.society_commands.specs.declared.left.Left.TheVariants.{Unclosed}
 use Rattle.society_commands.specs.declared.starting.NoWords.{NoWords}
 use Rattle.society_commands.specs.declared.starting.NoWords.TheVariants as without
 use Rattle.society_commands.specs.declared.trouble.Trouble.{Trouble}
-use Rattle.society_commands.specs.declared.trouble.Trouble.TheVariants.{Database, NoConnection, NoListener, Stream}
+use Rattle.society_commands.specs.declared.trouble.Trouble.TheVariants.{Database, NoConnection, NoListener, Orders, Stream}
 
 -- what a trouble is called on standard error (profile)
 abbrev pub trouble_text : Trouble → List ℕ
@@ -19,6 +19,7 @@ trouble_text (Database fault) = codes "database " ++ database_fault fault
 trouble_text (NoListener port) = codes "cannot listen at port " ++ decimal port
 trouble_text NoConnection = codes "cannot accept"
 trouble_text (Stream fault) = fault_text fault ++ codes " requests"
+trouble_text (Orders fault) = fault_text fault ++ codes " orders"
 
 -- this trouble was told, by a line of its own
 abbrev pub Tells : {E : Type 0} → (E → Option (List ℕ)) → Counted E → Counted E → Trouble → Type 0

@@ -1,9 +1,11 @@
 //! What the program does by its arguments: `replay` serves a reader to a writer over a book in memory, `serve` serves connections on
-//! this machine over the database at a path, `audit` tells whether that database is sound, `--help` tells of these.
+//! this machine over the database at a path, `audit` tells whether that database is sound, `credit` tells what orders would
+//! credit over it, `--help` tells of these.
 #![tactic(auto)]
 
 mod auditing;
 mod closing;
+mod crediting;
 mod left;
 mod machine;
 mod opening;
@@ -13,6 +15,7 @@ mod starting;
 mod trouble;
 
 pub use auditing::{audit_database, audit_file};
+pub use crediting::credit_file;
 pub use left::Left;
 pub use machine::OpenDatabase;
 pub use opening::{Job, serve_file};

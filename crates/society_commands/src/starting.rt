@@ -4,15 +4,16 @@ ghost use Rattle.std.specs.IoError.{error_kind};
 ghost use Rattle.clap.specs.Words.{kind_of};
 ghost use Rattle.clap.specs.declared.error.kind.ErrorKind.TheVariants.{DisplayHelp, OutOfMemory};
 ghost use Rattle.http_desk.specs.Serves.{KeepsTurns, NeitherFails};
-ghost use Rattle.society_commands.specs.Connections.{FindsSound, FindsUnsound, ServesOpened, StopsServingOpened, IsUnused, UsesNothing};
+ghost use Rattle.society_commands.specs.Connections.{CreditsOpened, FindsSound, FindsUnsound, ServesOpened, StopsCrediting, StopsServingOpened, IsUnused, UsesNothing};
 ghost use Rattle.society_commands.specs.Replays.{Replays, BreaksOff};
 ghost use Rattle.desk_connections.specs.Faults.{most_turns};
 ghost use Rattle.society_commands.specs.Refusals.{status_after, no_words_by, status_without};
 ghost use Rattle.desk_connections.specs.Connections.{Prints};
 ghost use Rattle.society_commands.specs.Troubles.{Tells, TellsAtEnd, TellsOfLog, TellsWithout, refused_line};
-ghost use Rattle.society_arguments.specs.Words.{AsksHelp, EndsAudit, EndsReplay, EndsServing, HasBadName, IsWrong, WantsReplay, asks};
+ghost use Rattle.society_arguments.specs.Words.{AsksHelp, EndsAudit, EndsCredit, EndsReplay, EndsServing, HasBadName, IsWrong, WantsReplay, asks};
 
 use crate::auditing::audit_file;
+use crate::crediting::credit_file;
 use crate::left::Left;
 use crate::machine::OpenDatabase;
 use crate::opening::{Job, serve_file};
@@ -44,8 +45,8 @@ pub enum NoWords {
 }
 
 /// Does what the program's words ask for: replays the reader at the office that they name, or serves connections there over the
-/// database that they name, or audits that database, or tells of the words on `out`; where they are wrong, says so on `err` and reads
-/// and writes nothing else. Answers the exit status: that of `replay`, `serve_file` or `audit_file`, 0 for help, 2 for wrong words;
+/// database that they name, or audits that database, or tells what orders would credit over it, or tells of the words on `out`; where they are wrong, says so on `err` and reads
+/// and writes nothing else. Answers the exit status: that of `replay`, `serve_file`, `audit_file` or `credit_file`, 0 for help, 2 for wrong words;
 /// else memory was refused for the words. What is left of the database comes back with it, and the opener where there is nothing to open.
 pub fn start<N: Listen + Drop, O: OpenDatabase, R: Read, W: Write, E: Write>(
     net: N,
@@ -65,7 +66,7 @@ pub fn start<N: Listen + Drop, O: OpenDatabase, R: Read, W: Write, E: Write>(
     ensures status { IfOk result.0 (λ status. (status ≡ 0) ⊎ ((status ≡ 1) ⊎ ((status ≡ 2) × IsWrong (asks words.now)))) }
     // Where all that they ask for is done, nothing is said on `err` but that a log was not copied.
     ensures quiet { IfOk result.0 (λ status. status ≡ 0 → TellsOfLog E.contents err.old err.new result.1) }
-    // But to serve and to audit nothing is opened.
+    // But to serve, to audit and to credit nothing is opened.
     ensures unused { UsesNothing (asks words.now) opener result.1 }
     ensures replayed { EndsReplay (asks words.now) 0 result.0 (λ office.
         Replays office R.remaining W.contents reader.old out.old out.new) }
@@ -82,6 +83,9 @@ pub fn start<N: Listen + Drop, O: OpenDatabase, R: Read, W: Write, E: Write>(
         FindsSound O.OpenDatabase path office W.contents out.old out.new result.1) }
     ensures unsound { EndsAudit (asks words.now) 1 result.0 (λ path office.
         FindsUnsound O.OpenDatabase opener path office out.old out.new (Tells E.contents err.old err.new) result.1) }
+    ensures credited { EndsCredit (asks words.now) 0 result.0 (λ path office. CreditsOpened O.OpenDatabase path office 0 result.1) }
+    ensures uncredited { EndsCredit (asks words.now) 1 result.0 (λ path office.
+        StopsCrediting O.OpenDatabase opener path office out.old out.new (Tells E.contents err.old err.new) result.1) }
 {
     match words_in(alloc, words) {
         Ok(Words::Replay(office)) => {
@@ -95,6 +99,10 @@ pub fn start<N: Listen + Drop, O: OpenDatabase, R: Read, W: Write, E: Write>(
         }
         Ok(Words::Audit(path, office)) => {
             let (status, left) = audit_file(opener, alloc, path, &office, out, err);
+            (Ok(status), left)
+        }
+        Ok(Words::Credit(path, office)) => {
+            let (status, left) = credit_file(opener, alloc, path, &office, reader, out, err);
             (Ok(status), left)
         }
         Ok(Words::BadName) => (Ok(refuse(err, "bad name")), Left::Unused(opener)),

@@ -22,6 +22,8 @@ pub enum Trouble {
     NoConnection,
     /// A stream broke off.
     Stream(DeskFault),
+    /// A listing of orders broke off.
+    Orders(DeskFault),
 }
 
 /// Writes the line of a trouble; what is not taken of it is passed over. Answers the status.
@@ -44,6 +46,7 @@ fn print_trouble<E: Write>(err: &mut Counted<E>, trouble: Trouble)
         Trouble::NoListener(port) => print_no_listener(err, port),
         Trouble::NoConnection => print(err, b"cannot accept"),
         Trouble::Stream(fault) => print_stream(err, fault),
+        Trouble::Orders(fault) => print_orders(err, fault),
     }
 }
 
@@ -69,6 +72,14 @@ fn print_stream<E: Write>(err: &mut Counted<E>, fault: DeskFault)
 {
     print_fault(err, &fault);
     print(err, b" requests");
+}
+
+// Writes what the fault of a listing is called, and after how many orders it came.
+fn print_orders<E: Write>(err: &mut Counted<E>, fault: DeskFault)
+    ensures { Prints E.contents err.old err.new (fault_text fault ++ codes " orders") }
+{
+    print_fault(err, &fault);
+    print(err, b" orders");
 }
 
 // What a fault of a database is called.

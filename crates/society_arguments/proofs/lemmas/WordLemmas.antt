@@ -20,7 +20,7 @@ use Rattle.clap.specs.Walk.{Row, Text, rows_of}
 use Rattle.clap.specs.declared.parser.matches.Found.{Found}
 use Rattle.share_rules.specs.Office.{IsOfficeOf}
 use Rattle.share_rules.specs.declared.office.Office.{Office}
-use Rattle.society_arguments.specs.Words.{Asked, AsksAudit, AsksToReplay, AsksHelp, AsksReplay, AsksServe, AsksToAudit, AsksToServe, WantsAudit, WantsReplay, WantsServing, HasBadName, HasBadWords, IsReadAs, IsRefusedAs, IsWrong, at_office, number_given, number_spelled, serving_of}
+use Rattle.society_arguments.specs.Words.{Asked, AsksAudit, AsksCredit, AsksToReplay, AsksHelp, AsksReplay, AsksServe, AsksToAudit, AsksToCredit, AsksToServe, WantsAudit, WantsCredit, WantsReplay, WantsServing, HasBadName, HasBadWords, IsReadAs, IsRefusedAs, IsWrong, at_office, number_given, number_spelled, serving_of}
 use Rattle.society_arguments.specs.declared.words.Database.{Database}
 use Rattle.society_arguments.specs.declared.words.Listening.{Listening}
 use Rattle.society_arguments.specs.declared.words.Words.{Words}
@@ -76,6 +76,7 @@ pub asks_for : (a : Asked) (office : Office) → IsReadAs a (words.Replay office
 asks_for (AsksReplay society territory name) office reads = reads
 asks_for (AsksServe path existing place society territory name) office reads = absurd reads
 asks_for (AsksAudit path society territory name) office reads = absurd reads
+asks_for (AsksCredit path society territory name) office reads = absurd reads
 asks_for AsksHelp office reads = absurd reads
 asks_for HasBadName office reads = absurd reads
 asks_for HasBadWords office reads = absurd reads
@@ -86,6 +87,7 @@ pub asks_to_serve : (a : Asked) (database : Database) (place : Listening) (offic
 asks_to_serve (AsksServe path existing there society territory name) database place office reads = (reads.0.0, reads.0.1, reads.1, reads.2)
 asks_to_serve (AsksReplay society territory name) database place office reads = absurd reads
 asks_to_serve (AsksAudit path society territory name) database place office reads = absurd reads
+asks_to_serve (AsksCredit path society territory name) database place office reads = absurd reads
 asks_to_serve AsksHelp database place office reads = absurd reads
 asks_to_serve HasBadName database place office reads = absurd reads
 asks_to_serve HasBadWords database place office reads = absurd reads
@@ -95,11 +97,22 @@ pub asks_to_audit : (a : Asked) (path : Bor Text) (office : Office) → IsReadAs
 asks_to_audit (AsksReplay society territory name) path office reads = absurd reads
 asks_to_audit (AsksServe opened existing place society territory name) path office reads = absurd reads
 asks_to_audit (AsksAudit asked society territory name) path office reads = reads
+asks_to_audit (AsksCredit asked society territory name) path office reads = absurd reads
 asks_to_audit AsksHelp path office reads = absurd reads
 asks_to_audit HasBadName path office reads = absurd reads
 asks_to_audit HasBadWords path office reads = absurd reads
 
--- how words are read that ask for a replay, to serve, or to audit
+-- words that are read so as to credit ask for it
+pub asks_to_credit : (a : Asked) (path : Bor Text) (office : Office) → IsReadAs a (words.Credit path office) → AsksToCredit a path.now office
+asks_to_credit (AsksReplay society territory name) path office reads = absurd reads
+asks_to_credit (AsksServe opened existing place society territory name) path office reads = absurd reads
+asks_to_credit (AsksCredit asked society territory name) path office reads = reads
+asks_to_credit (AsksAudit asked society territory name) path office reads = absurd reads
+asks_to_credit AsksHelp path office reads = absurd reads
+asks_to_credit HasBadName path office reads = absurd reads
+asks_to_credit HasBadWords path office reads = absurd reads
+
+-- how words are read that ask for a replay, to serve, to audit or to credit
 abbrev pub IsReplay : Words → Type 0
 IsReplay (words.Replay office) = Unit {0}
 IsReplay _ = ⊥
@@ -112,14 +125,20 @@ abbrev pub IsAudit : Words → Type 0
 IsAudit (words.Audit path office) = Unit {0}
 IsAudit _ = ⊥
 
+abbrev pub IsCredit : Words → Type 0
+IsCredit (words.Credit path office) = Unit {0}
+IsCredit _ = ⊥
+
 pub replay_read : (a : Asked) (read : Words) → IsReadAs a read → WantsReplay a → IsReplay read
 replay_read (AsksReplay society territory name) (words.Replay office) reads wants = tt
 replay_read (AsksReplay society territory name) (words.Serve database place office) reads wants = absurd reads
 replay_read (AsksReplay society territory name) (words.Audit path office) reads wants = absurd reads
+replay_read (AsksReplay society territory name) (words.Credit path office) reads wants = absurd reads
 replay_read (AsksReplay society territory name) words.BadName reads wants = absurd reads
 replay_read (AsksReplay society territory name) words.BadWords reads wants = absurd reads
 replay_read (AsksServe path existing place society territory name) read reads wants = absurd wants
 replay_read (AsksAudit path society territory name) read reads wants = absurd wants
+replay_read (AsksCredit path society territory name) read reads wants = absurd wants
 replay_read AsksHelp read reads wants = absurd wants
 replay_read HasBadName read reads wants = absurd wants
 replay_read HasBadWords read reads wants = absurd wants
@@ -128,10 +147,12 @@ pub serving_read : (a : Asked) (read : Words) → IsReadAs a read → WantsServi
 serving_read (AsksServe path existing place society territory name) (words.Serve database at office) reads wants = tt
 serving_read (AsksServe path existing place society territory name) (words.Replay office) reads wants = absurd reads
 serving_read (AsksServe path existing place society territory name) (words.Audit opened office) reads wants = absurd reads
+serving_read (AsksServe path existing place society territory name) (words.Credit opened office) reads wants = absurd reads
 serving_read (AsksServe path existing place society territory name) words.BadName reads wants = absurd reads
 serving_read (AsksServe path existing place society territory name) words.BadWords reads wants = absurd reads
 serving_read (AsksReplay society territory name) read reads wants = absurd wants
 serving_read (AsksAudit path society territory name) read reads wants = absurd wants
+serving_read (AsksCredit path society territory name) read reads wants = absurd wants
 serving_read AsksHelp read reads wants = absurd wants
 serving_read HasBadName read reads wants = absurd wants
 serving_read HasBadWords read reads wants = absurd wants
@@ -140,29 +161,48 @@ pub audit_read : (a : Asked) (read : Words) → IsReadAs a read → WantsAudit a
 audit_read (AsksAudit path society territory name) (words.Audit opened office) reads wants = tt
 audit_read (AsksAudit path society territory name) (words.Replay office) reads wants = absurd reads
 audit_read (AsksAudit path society territory name) (words.Serve database place office) reads wants = absurd reads
+audit_read (AsksAudit path society territory name) (words.Credit opened office) reads wants = absurd reads
 audit_read (AsksAudit path society territory name) words.BadName reads wants = absurd reads
 audit_read (AsksAudit path society territory name) words.BadWords reads wants = absurd reads
 audit_read (AsksReplay society territory name) read reads wants = absurd wants
 audit_read (AsksServe path existing place society territory name) read reads wants = absurd wants
+audit_read (AsksCredit path society territory name) read reads wants = absurd wants
 audit_read AsksHelp read reads wants = absurd wants
 audit_read HasBadName read reads wants = absurd wants
 audit_read HasBadWords read reads wants = absurd wants
+
+pub credit_read : (a : Asked) (read : Words) → IsReadAs a read → WantsCredit a → IsCredit read
+credit_read (AsksCredit path society territory name) (words.Credit opened office) reads wants = tt
+credit_read (AsksCredit path society territory name) (words.Replay office) reads wants = absurd reads
+credit_read (AsksCredit path society territory name) (words.Serve database place office) reads wants = absurd reads
+credit_read (AsksCredit path society territory name) (words.Audit opened office) reads wants = absurd reads
+credit_read (AsksCredit path society territory name) words.BadName reads wants = absurd reads
+credit_read (AsksCredit path society territory name) words.BadWords reads wants = absurd reads
+credit_read (AsksReplay society territory name) read reads wants = absurd wants
+credit_read (AsksServe path existing place society territory name) read reads wants = absurd wants
+credit_read (AsksAudit path society territory name) read reads wants = absurd wants
+credit_read AsksHelp read reads wants = absurd wants
+credit_read HasBadName read reads wants = absurd wants
+credit_read HasBadWords read reads wants = absurd wants
 
 -- words that ask for something to be done are not wrong
 not_wrong : (a : Asked) (read : Words) → IsReadAs a read → IsWrong a → (read ≡ words.BadName) ⊎ (read ≡ words.BadWords)
 not_wrong (AsksReplay society territory name) read reads wrong = absurd wrong
 not_wrong (AsksServe path existing place society territory name) read reads wrong = absurd wrong
 not_wrong (AsksAudit path society territory name) read reads wrong = absurd wrong
+not_wrong (AsksCredit path society territory name) read reads wrong = absurd wrong
 not_wrong AsksHelp read reads wrong = absurd wrong
 not_wrong HasBadName words.BadName reads wrong = inl refl
 not_wrong HasBadName (words.Replay office) reads wrong = absurd reads
 not_wrong HasBadName (words.Serve database place office) reads wrong = absurd reads
 not_wrong HasBadName (words.Audit path office) reads wrong = absurd reads
+not_wrong HasBadName (words.Credit path office) reads wrong = absurd reads
 not_wrong HasBadName words.BadWords reads wrong = absurd reads
 not_wrong HasBadWords words.BadWords reads wrong = inr refl
 not_wrong HasBadWords (words.Replay office) reads wrong = absurd reads
 not_wrong HasBadWords (words.Serve database place office) reads wrong = absurd reads
 not_wrong HasBadWords (words.Audit path office) reads wrong = absurd reads
+not_wrong HasBadWords (words.Credit path office) reads wrong = absurd reads
 not_wrong HasBadWords words.BadName reads wrong = absurd reads
 
 -- words that are read so as to be done are not wrong
@@ -175,6 +215,9 @@ serve_not_wrong a database place office reads wrong = elim (not_wrong a (words.S
 pub audit_not_wrong : (a : Asked) (path : Bor Text) (office : Office) → IsReadAs a (words.Audit path office) → IsWrong a → ⊥
 audit_not_wrong a path office reads wrong = elim (not_wrong a (words.Audit path office) reads wrong) [ inl is ↦ cc | inr is ↦ cc ]
 
+pub credit_not_wrong : (a : Asked) (path : Bor Text) (office : Office) → IsReadAs a (words.Credit path office) → IsWrong a → ⊥
+credit_not_wrong a path office reads wrong = elim (not_wrong a (words.Credit path office) reads wrong) [ inl is ↦ cc | inr is ↦ cc ]
+
 pub read_no_help : (a : Asked) (read : Words) → IsReadAs a read → a ≡ AsksHelp → ⊥
 read_no_help a read reads help = no_help read (subst (λ (b : Asked). IsReadAs b read) help reads)
   where
@@ -182,6 +225,7 @@ read_no_help a read reads help = no_help read (subst (λ (b : Asked). IsReadAs b
     no_help (words.Replay office) reads = reads
     no_help (words.Serve database place office) reads = reads
     no_help (words.Audit path office) reads = reads
+    no_help (words.Credit path office) reads = reads
     no_help words.BadName reads = reads
     no_help words.BadWords reads = reads
 
@@ -190,6 +234,7 @@ pub name_is_wrong : (a : Asked) → IsReadAs a words.BadName → IsWrong a
 name_is_wrong (AsksReplay society territory name) reads = absurd reads
 name_is_wrong (AsksServe path existing place society territory name) reads = absurd reads
 name_is_wrong (AsksAudit path society territory name) reads = absurd reads
+name_is_wrong (AsksCredit path society territory name) reads = absurd reads
 name_is_wrong AsksHelp reads = absurd reads
 name_is_wrong HasBadName reads = reads
 name_is_wrong HasBadWords reads = absurd reads
@@ -198,6 +243,7 @@ pub words_are_wrong : (a : Asked) → IsReadAs a words.BadWords → IsWrong a
 words_are_wrong (AsksReplay society territory name) reads = absurd reads
 words_are_wrong (AsksServe path existing place society territory name) reads = absurd reads
 words_are_wrong (AsksAudit path society territory name) reads = absurd reads
+words_are_wrong (AsksCredit path society territory name) reads = absurd reads
 words_are_wrong AsksHelp reads = absurd reads
 words_are_wrong HasBadName reads = absurd reads
 words_are_wrong HasBadWords reads = reads
@@ -208,6 +254,7 @@ pub at_named : (asks : ℕ → ℕ → Text → Asked) (read : Words) (office : 
 at_named asks read office is (AsksReplay society territory name) reads = is society territory name reads
 at_named asks read office is (AsksServe path existing place society territory name) reads = absurd reads
 at_named asks read office is (AsksAudit path society territory name) reads = absurd reads
+at_named asks read office is (AsksCredit path society territory name) reads = absurd reads
 at_named asks read office is AsksHelp reads = absurd reads
 at_named asks read office is HasBadName reads = absurd reads
 at_named asks read office is HasBadWords reads = absurd reads
@@ -217,10 +264,12 @@ pub at_none : (asks : ℕ → ℕ → Text → Asked) (read : Words) (a : Asked)
 at_none asks (words.Replay office) (AsksReplay society territory name) other reads = absurd (other office refl)
 at_none asks (words.Serve database place office) (AsksReplay society territory name) other reads = absurd reads
 at_none asks (words.Audit path office) (AsksReplay society territory name) other reads = absurd reads
+at_none asks (words.Credit path office) (AsksReplay society territory name) other reads = absurd reads
 at_none asks words.BadName (AsksReplay society territory name) other reads = absurd reads
 at_none asks words.BadWords (AsksReplay society territory name) other reads = absurd reads
 at_none asks read (AsksServe path existing place society territory name) other reads = reads
 at_none asks read (AsksAudit path society territory name) other reads = reads
+at_none asks read (AsksCredit path society territory name) other reads = reads
 at_none asks read AsksHelp other reads = reads
 at_none asks read HasBadName other reads = reads
 at_none asks read HasBadWords other reads = reads
@@ -241,3 +290,6 @@ refused_serving P a kind result refused memory wants = refused_none P a kind res
 
 pub refused_audit : {E : Type 0} (P : ℕ → Type 0) (a : Asked) (kind : ErrorKind) (result : Result ℕ E) → IsRefusedAs a kind → (kind ≡ OutOfMemory → IsErr result) → WantsAudit a → IfOk result P
 refused_audit P a kind result refused memory wants = refused_none P a kind result refused memory (λ is. subst WantsAudit is wants) (λ is. subst WantsAudit is wants)
+
+pub refused_credit : {E : Type 0} (P : ℕ → Type 0) (a : Asked) (kind : ErrorKind) (result : Result ℕ E) → IsRefusedAs a kind → (kind ≡ OutOfMemory → IsErr result) → WantsCredit a → IfOk result P
+refused_credit P a kind result refused memory wants = refused_none P a kind result refused memory (λ is. subst WantsCredit is wants) (λ is. subst WantsCredit is wants)

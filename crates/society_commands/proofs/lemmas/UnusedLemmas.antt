@@ -1,8 +1,8 @@
--- Where words ask to serve or to audit, nothing is said of the opener; else it is unused.
+-- Where words ask to serve, to audit or to credit, nothing is said of the opener; else it is unused.
 use Rattle.share_rules.specs.declared.office.Office.{Office}
 use Rattle.sqlite_disk.specs.declared.Disk.{Ghosts}
 use Rattle.std.proofs.Common.{Bor, List, ℕ}
-use Rattle.society_arguments.specs.Words.{Asked, AsksAudit, AsksHelp, AsksReplay, AsksServe, HasBadName, HasBadWords, IsReadAs}
+use Rattle.society_arguments.specs.Words.{Asked, AsksAudit, AsksCredit, AsksHelp, AsksReplay, AsksServe, HasBadName, HasBadWords, IsReadAs}
 use Rattle.society_arguments.specs.declared.words.Database.{Database}
 use Rattle.society_arguments.specs.declared.words.Listening.{Listening}
 use Rattle.society_arguments.specs.declared.words.Words.TheVariants as words
@@ -14,6 +14,7 @@ module _ {F O : Type 0} {g : Ghosts F} (opener : O) (rest : Left F O g) where
   unused (AsksReplay society territory name) is = is
   unused (AsksServe path existing place society territory name) is = tt
   unused (AsksAudit path society territory name) is = tt
+  unused (AsksCredit path society territory name) is = tt
   unused AsksHelp is = is
   unused HasBadName is = is
   unused HasBadWords is = is
@@ -22,14 +23,25 @@ module _ {F O : Type 0} {g : Ghosts F} (opener : O) (rest : Left F O g) where
   serves (AsksServe path existing at society territory name) database place office is = tt
   serves (AsksReplay society territory name) database place office is = absurd is
   serves (AsksAudit path society territory name) database place office is = absurd is
+  serves (AsksCredit path society territory name) database place office is = absurd is
   serves AsksHelp database place office is = absurd is
   serves HasBadName database place office is = absurd is
   serves HasBadWords database place office is = absurd is
 
   pub audits : (asked : Asked) (path : Bor (List ℕ)) (office : Office) → IsReadAs asked (words.Audit path office) → UsesNothing asked opener rest
   audits (AsksAudit asked society territory name) path office is = tt
+  audits (AsksCredit asked society territory name) path office is = absurd is
   audits (AsksServe asked existing at society territory name) path office is = absurd is
   audits (AsksReplay society territory name) path office is = absurd is
   audits AsksHelp path office is = absurd is
   audits HasBadName path office is = absurd is
   audits HasBadWords path office is = absurd is
+
+  pub credits : (asked : Asked) (path : Bor (List ℕ)) (office : Office) → IsReadAs asked (words.Credit path office) → UsesNothing asked opener rest
+  credits (AsksCredit asked society territory name) path office is = tt
+  credits (AsksAudit asked society territory name) path office is = absurd is
+  credits (AsksServe asked existing at society territory name) path office is = absurd is
+  credits (AsksReplay society territory name) path office is = absurd is
+  credits AsksHelp path office is = absurd is
+  credits HasBadName path office is = absurd is
+  credits HasBadWords path office is = absurd is

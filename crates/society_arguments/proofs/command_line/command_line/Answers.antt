@@ -11,5 +11,6 @@ returns c =
     let begun = top ∙ ap (on_top (λ s. record s { disable_help_subcommand = true })) (required ∙ ap (on_top (λ s. record s { subcommand_required = true })) about) in
     let first = c.in_ok-subcommand.ensures.shape c.in_ok-replay_command.ensures.1 ∙ ap₂ with_subcommand begun (ap (λ (a : App). a.top) c.in_ok-replay_command.ensures.0) in
     let second = c.in_ok-subcommand-2.ensures.shape c.in_ok-serve_command.ensures.1 ∙ ap₂ with_subcommand first (ap (λ (a : App). a.top) c.in_ok-serve_command.ensures.0) in
-    IfOk-weaker c.subcommand-3.result _ _
-    (λ r h. h.shape c.in_ok-audit_command.ensures.1 ∙ ap₂ with_subcommand second (ap (λ (a : App). a.top) c.in_ok-audit_command.ensures.0)) c.subcommand-3.ensures
+    let third = c.in_ok-subcommand-3.ensures.shape c.in_ok-audit_command.ensures.1 ∙ ap₂ with_subcommand second (ap (λ (a : App). a.top) c.in_ok-audit_command.ensures.0) in
+    IfOk-weaker c.subcommand-4.result _ _
+    (λ r h. h.shape c.in_ok-credit_command.ensures.1 ∙ ap₂ with_subcommand third (ap (λ (a : App). a.top) c.in_ok-credit_command.ensures.0)) c.subcommand-4.ensures

@@ -1,0 +1,49 @@
+-- What telling of orders leaves of a database.
+use Rattle.std.proofs.Common.{◌≡◌, ◌∙◌, ℕ, IsTrue, Result, arith, refl, true}
+use Rattle.share_rules.specs.declared.office.Office.{Office}
+use Rattle.sqlite.proofs.Callers.{survives_begin}
+use Rattle.sqlite.proofs.StateLemmas.{survives_then}
+use Rattle.sqlite.specs.Effect.{Database}
+use Rattle.sqlite.specs.Held.{Held, state}
+use Rattle.sqlite.specs.State.{HasCleanDisk, IsRolledBack, State, Survives}
+use Rattle.sqlite_trees.specs.Tree.{Trees}
+use Rattle.sqlite_trees.specs.declared.store.Store.{Ghosts}
+use Rattle.society_rows.specs.declared.fault.RowFault.{RowFault}
+use Rattle.society_book.proofs.lemmas.together.StepLemmas.{still}
+use Rattle.society_book.specs.Steps.{Looks}
+use Rattle.society_opening.specs.Existing.{FindsSoundly}
+use Rattle.society_opening.specs.Opening.{ShowsAs}
+use Rattle.society_commands.specs.Connections.{CreditsOver, KeepsShown}
+
+-- readings in a transaction that was rolled back
+pub kept_by : {S : Type 0} (g : Ghosts S) {X : Type 0} (old : Held S) (mid new : State) (result : Result X RowFault) (Found : Trees → X → Type 0)
+    → Looks (state g (record old { in_transaction = true })) mid result Found → (HasCleanDisk new → IsRolledBack mid new) → Survives mid new (λ _. ⊥) → KeepsShown (state g old) new
+kept_by g old mid new result Found looks rolled survives = record {
+  was_open = λ clean opened. (looks.kept (early clean) refl).was_open ((rolled clean).was_open opened);
+  shown = λ clean opened.
+      let back = (rolled clean).undone opened in
+      let same = (looks.kept (early clean) refl).committed ((rolled clean).was_open opened) in
+      (back.0 ∙ same, back.1 ∙ same);
+  crash = survives_begin g old new (λ _. ⊥) (survives_then (state g (record old { in_transaction = true })) mid new (λ _. ⊥) (λ _. ⊥) (λ _. ⊥) (λ _ db none. none) (λ _ db none. none) looks.survives survives);
+}
+  where
+    early : HasCleanDisk new → HasCleanDisk mid
+    early clean = (let fell = survives.clean in omega (clean, fell, arith))
+
+-- behind an audit that found a sound book
+pub audited_then : (office : Office) (old mid new : State) (status : ℕ) → FindsSoundly office old mid → Survives old mid (λ _. ⊥) → KeepsShown mid new → CreditsOver office old new status
+audited_then office old mid new status sound first kept = record {
+  shown = λ clean opened again.
+      let shows = (sound (early clean) opened).1 (kept.was_open clean again) in
+      let here = kept.shown clean again in
+      (here.0 ∙ shows.1, here.1 ∙ shows.1);
+  sound = λ zero clean opened. (sound (early clean) opened).0;
+  crash = survives_then old mid new (λ _. ⊥) (λ _. ⊥) (λ _. ⊥) (λ _ db none. none) (λ _ db none. none) first kept.crash;
+}
+  where
+    early : HasCleanDisk new → HasCleanDisk mid
+    early clean = (let fell = kept.crash.clean in omega (clean, fell, arith))
+
+-- nothing was done to a connection at rest
+pub kept_still : (s : State) → (IsTrue s.is_open → s.now ≡ s.committed) → KeepsShown s s
+kept_still s settled = record { was_open = λ clean opened. opened; shown = λ clean opened. (settled opened, refl); crash = still s }
