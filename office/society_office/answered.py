@@ -18,7 +18,7 @@ from society_office.program import Answer
 from society_office.return_names import LAST_NUMBER
 
 # So many numbers behind the last one of a reporter, or of the pools, are asked for, and so many of those that are left out below it.
-BEHIND, BELOW = 3, 20
+BEHIND, BELOW = 3, 5
 # So many accounts are asked for, those with the greatest balances first.
 MOST_ACCOUNTS = 200
 FRONT, RETURN, POOL, ACCOUNT = "front", "return", "pool", "account"

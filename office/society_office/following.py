@@ -13,6 +13,8 @@ from society_office.pages import text_of, write_text
 from society_office.resending import Tally
 
 MINUTE = 60
+# So many things are named.
+MOST_TOLD = 5
 NOTHING: dict[str, Any] = {"fronts": {}, "held": {}, "ends": 0, "returns": 0, "orders": 0}
 
 
@@ -25,6 +27,9 @@ class Following:
     since: float
     has: dict[str, Any] = dataclasses.field(default_factory=lambda: NOTHING)
     lacks: str = ""
+    # What it had beyond a copy, the last time and each time since the time before: what came meanwhile is in the next copy.
+    more: list[str] = dataclasses.field(default_factory=list)
+    ahead: list[str] = dataclasses.field(default_factory=list)
     refused: list[str] = dataclasses.field(default_factory=list)
 
     @property
@@ -38,6 +43,9 @@ class Following:
         when = f"{time.strftime('%Y-%m-%d %H:%M:%S', time.localtime(self.since))} ({self.minutes:,.0f} minutes ago)"
         if self.refused:
             return f"{self.standby} is not the same any more: {'; '.join(self.refused)}"
+        if self.ahead:
+            told = "; ".join(self.ahead[:MOST_TOLD])
+            return f"{self.standby} has what the office has not: {told}. The office has lost it: take a copy of the standby, and restore it"
         if self.lacks:
             return f"{self.standby} is known to have all until {when}. What has come since: {self.lacks}"
         return f"{self.standby} has all that came until {when}"
@@ -47,6 +55,10 @@ class Following:
         self.lacks, self.refused = "", list(tally.causes())
         if not self.refused:
             self.since, self.has = copy.taken, held_by(copy)
+
+    def compared(self, more: list[str]) -> None:
+        """What it has beyond the copy that was sent: what it had before too, and the next copy still has not, the office has lost."""
+        self.more, self.ahead = more, [it for it in more if it in self.more]
 
     def fell_behind(self, copy: Copy) -> None:
         """Not all of a copy could be sent to it. Where the clock was set back since, it counts from now on."""

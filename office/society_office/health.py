@@ -287,7 +287,7 @@ def look_at_standby(it: Looked, limits: Limits) -> Finding:
     """For how long a standby has not been known to have all, by what `resend --state` keeps."""
     assert it.standby is not None
     found = following.kept(it.standby)
-    state = WRONG if found.refused else judged(found.minutes, limits.standby, True)
+    state = WRONG if found.refused or found.ahead else judged(found.minutes, limits.standby, True)
     hours = (found.since - time.time()) / HOUR
     if state == GOOD and hours > 1:
         # (the next round would put it right)

@@ -41,6 +41,8 @@ class Tally:
     known: int = 0
     there: int = 0
     refused: dict[str, list[str]] = dataclasses.field(default_factory=dict)
+    # What the other office has and the copy has not, where that was asked for.
+    beyond: list[str] = dataclasses.field(default_factory=list)
 
     def take(self, it: Request, answer: Answer) -> None:
         """Counts an answer."""

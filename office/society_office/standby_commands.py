@@ -7,6 +7,7 @@ from typing import Any
 import click
 
 from society_office import following, rebuilding
+from society_office.answered import lacks
 from society_office.asking import Connections, access_by_netrc
 from society_office.command_words import COPY_HELP, NUMBER, PATH, PROGRAM_HELP, WRONG, noted
 from society_office.comparing import Difference, compare, summary
@@ -111,7 +112,7 @@ def send_again(copy: pathlib.Path, address: str, since_fronts: bool, state: path
     follower = following.begun(state, address) if state else None
     with open_copy(copy) as opened:
         try:
-            found = sent_to(noted(opened), address, since_fronts, access)
+            found = sent_to(noted(opened), address, since_fronts, access, follower is not None)
         except OfficeError as error:
             if follower is None or state is None:
                 raise
@@ -123,17 +124,21 @@ def send_again(copy: pathlib.Path, address: str, since_fronts: bool, state: path
             if follower is None or state is None:
                 sys.exit(WRONG if found.refused else 0)
             follower.caught_up(opened, found)
+            follower.compared(found.beyond)
     follower.keep(state)
     say(follower.words)
-    sys.exit(WRONG if follower.refused or follower.minutes > behind else 0)
+    sys.exit(WRONG if follower.refused or follower.ahead or follower.minutes > behind else 0)
 
 
-def sent_to(copy: Copy, address: str, since_fronts: bool, access: dict[str, Any]) -> Tally:
-    """What became of what was sent to the office at an address."""
+def sent_to(copy: Copy, address: str, since_fronts: bool, access: dict[str, Any], is_followed: bool) -> Tally:
+    """What became of what was sent to the office at an address; of one that is followed also what it has beyond the copy."""
     office = connected(address, **access)
     try:
         with counting("sent", how_many(copy)) as tell:
-            return resend(copy, office, since_fronts, tell)
+            found = resend(copy, office, since_fronts, tell)
+        if is_followed and copy.layout > 1:
+            found.beyond = [it.words for it in lacks(copy, office)]
+        return found
     finally:
         office.close()
 

@@ -169,3 +169,19 @@ def test_what_is_kept_is_of_one_standby(tmp_path: pathlib.Path) -> None:
         with pytest.raises(OfficeError, match="is not what `resend --state` keeps"):
             following.kept(state)
     assert health.tried("standby", lambda: [look(state)])[0].state == WRONG
+
+
+def test_what_the_standby_has_and_the_office_lost_is_told(copy: pathlib.Path, program: str, tmp_path: pathlib.Path) -> None:
+    """What came meanwhile is in the next copy, and what is not there either the office has lost."""
+    more = further(program, copy, [("/returns/RADIO1/6", b"isrc,plays,seconds\n")], tmp_path / "more.db")
+    state = tmp_path / "state.json"
+    with standing(program, tmp_path / "standby.db") as address:
+        words = ["--to", address, "--since-fronts", "--state", state]
+        run("resend", more, *words)
+        assert "has all that came" in run("resend", copy, *words)
+        assert look(state).state == GOOD
+        assert "has all that came" in run("resend", more, *words) and "has all that came" in run("resend", copy, *words)
+        said = run("resend", copy, *words, status=1, out=True)
+        assert f"{address} has what the office has not: return RADIO1/6. The office has lost it" in said
+        assert look(state).state == WRONG
+        assert "has all that came" in run("resend", more, *words)
