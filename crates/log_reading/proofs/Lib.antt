@@ -1,0 +1,4 @@
+pub mod Lemmas
+pub mod OldReading
+pub mod Standing
+pub mod Watching
