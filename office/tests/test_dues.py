@@ -32,6 +32,8 @@ def test_an_amendment_is_remembered(desk: Desk) -> None:
     assert desk.accounts() == {ANNA: (100, 0), "UNCLAIMED": (0, 1_000)}
     assert desk.settled() == [99_998] and desk.balances() == {ANNA: 100}
     assert "lacking" not in desk.run("dues")
+    desk.amend(1, "--amount", 0)
+    assert desk.accounts()[ANNA] == (0, 100) and "too much: 100 units of 1 account\n" in desk.run("dues")
 
 
 @pytest.mark.parametrize("amends", [False, True])
