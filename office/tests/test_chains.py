@@ -100,6 +100,16 @@ def test_of_more_units_than_an_order_has_there_are_several() -> None:
     assert all_paid(chain, 4) == [10**12] * 3 and lacking(chain) == 0
 
 
+def test_as_many_senders_as_a_cut_has() -> None:
+    chain = Chain(0)
+    chain.apart = False
+    chain.ledger.send_return(("RADIO1", 1), rows(200))
+    chain.ledger.close(1, Order("PR", 20_000, (), (("RADIO1", 1),)))
+    for k in range(200):
+        chain.ledger.send_file(f"PB{k:09d}", [Work("W1", (f"ATABC{k:07d}",), ((f"I{k + 1:011d}", 10_000, 0),))])
+    assert all_paid(chain, 2) == [20_000] and lacking(chain) == 0
+
+
 @pytest.mark.parametrize("shared", [False, True])
 def test_of_more_senders_than_a_cut_has(shared: bool) -> None:
     chain = Chain(0)
@@ -222,3 +232,16 @@ def test_of_ways_that_pay_the_same_units_one_is_next() -> None:
     amend(chain, 1, 1_000)
     amend(chain, 3, 1_000)
     assert next_of(chain) == ("DUE", {C: 500})
+
+
+def test_the_first_make_up_that_has_an_owner_counts() -> None:
+    chain = prepared(("PR", 1_000, False, A))
+    chain.ledger.send_file("PB000000034", [Work("W1", (A,), (("I00000000102", 10_000, 10_000),))])
+    chain.ledger.send_file(HOUSE, [Work("W1", (B,), ((ANNA, 10_000, 10_000),))])
+    cuts = ((HOUSE, 1), ("PB000000034", 1)), ((HOUSE, 1),), ((HOUSE, 2), ("PB000000034", 1))
+    for k, cut in enumerate(cuts):
+        chain.ledger.send_return((f"LATE0000000{k}", 99_999 - k), f"{ROWLESS}{A},100,1\n")
+        assert chain.ledger.close(99_999 - k, Order("PR", 100, cut, ((f"LATE0000000{k}", 99_999 - k),))) == 201
+    # At the first cut two works name it, at the second Anna's alone, at the third the other one's.
+    chain.check_dues()
+    assert next_of(chain) == ("LATE", {A: 900})

@@ -245,8 +245,20 @@ def test_an_amendment_and_its_list(desk: Desk, decided: pathlib.Path) -> None:
         assert why in desk.run("amend", 1, *words, status=1)
     (decided / "void.txt").write_text("RADIO1/2\n")
     assert "RADIO1/2: void" in desk.run("amend", 1, "--returns", "RADIO1/2", status=1)
-    assert "pool 7 is none that people have closed" in desk.run("amend", 7, "--amount", 1, status=1)
+    for number in (7, 99_999):
+        assert f"pool {number} is none that people have closed" in desk.run("amend", number, "--amount", 1, status=1)
     assert "--into and --why belong together" in desk.run("amend", 1, "--why", "so", status=2)
+
+
+def test_a_line_that_was_changed_by_hand(desk: Desk, decided: pathlib.Path) -> None:
+    desk.steps(of_a(), Return("RADIO1", 2, [(A, 1, 1)]), Return("RADIO1", 3, [(A, 1, 1)]), Pool(2, "PR", 50, {}, [("RADIO1", 3)]))
+    desk.amend(1, "--amount", 300)
+    listed = decided / "amendments.txt"
+    text = listed.read_text()
+    listed.write_text(text.replace('["RADIO1",1]', '["RADIO1",1],["RADIO1",2]'))
+    assert "`99999 1` adds RADIO1/2, which pool 99999 does not name" in desk.run("dues", status=1)
+    listed.write_text(text.replace('["RADIO1",1]', '["RADIO1",1],["RADIO1",3]'))
+    assert "RADIO1/3 is of pool 1 and of pool 2: amend one of them" in desk.run("dues", status=1)
 
 
 def test_an_order_that_was_sent_under_a_wrong_number_counts_as_paid(desk: Desk) -> None:
