@@ -268,6 +268,7 @@ def test_an_order_that_was_sent_under_a_wrong_number_counts_as_paid(desk: Desk) 
     assert desk.accounts()[ANNA] == (1_000, 1_000) and desk.due() == [] and desk.send(letters[1]) == [409]
     desk.amend(1, "--amount", 1_200)
     assert desk.settled() == [99_997] and desk.balances() == {ANNA: 1_200}
+    assert "pool 3 is free" in run_errors(desk, "propose", "--amount", 5, "--no-returns")
     # The office's own returns are of no station.
     desk.run("site", "--into", desk.folder / "site")
     stations = (desk.folder / "site/stations.html").read_text()
