@@ -11,7 +11,7 @@ from society_office.copy import Copy
 from society_office.decisions import Amendment
 from society_office.errors import OfficeError
 from society_office.numbering import as_json, rank_of
-from society_office.orders import MOST_SENDERS, Order, changed_cut, refuse_wrong
+from society_office.orders import LARGEST_AMOUNT, MOST_SENDERS, Order, changed_cut, refuse_wrong
 from society_office.own_returns import amends, corrected_by
 from society_office.pool_kinds import Book
 from society_office.return_names import Entry, Return, are_listed, names_text
@@ -123,6 +123,8 @@ def amended(
     if len(cut) > MOST_SENDERS:
         raise OfficeError(f"--cut: {len(cut):,} senders, and a cut has {MOST_SENDERS} at most")
     amount = was.amount if changes.amount is None else changes.amount
+    if amount > LARGEST_AMOUNT:
+        raise OfficeError(f"an amount is 0 to {LARGEST_AMOUNT:,} units")
     return Order(changes.kind or was.kind, amount, cut, named if changes.returns else was.returns)
 
 

@@ -47,6 +47,7 @@ class PatientOffice:
 
     def __init__(self, office: Office, seconds: float, least: float = LEAST_ANSWER) -> None:
         self.office, self.seconds, self.least, self.asked, self.is_stopped = office, seconds, least, 0, False
+        self.has_put = False
         # What an office is asked before the first thing that is put over a connection: behind one that broke may stand another office.
         self.first: Request | None = None
 
@@ -55,10 +56,11 @@ class PatientOffice:
         if self.asked and self.asked % ON_ONE_CONNECTION == 0:
             self.office.close()
         self.asked += 1
+        self.has_put = self.has_put or it.body is not None
         until, pause = time.monotonic() + self.seconds, FIRST_PAUSE
         while isinstance(said := self.once(it, until), str):
             if self.is_stopped or time.monotonic() + pause > until:
-                raise OfficeError(f"{said}. What was sent stays: run it again")
+                raise OfficeError(f"{said}. {'What was sent stays: run' if self.has_put else 'Run'} it again")
             time.sleep(pause)
             pause = min(2 * pause, LONGEST_PAUSE)
         if said.status in (401, 403):

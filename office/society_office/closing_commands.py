@@ -11,7 +11,7 @@ import click
 from society_office import answered, closing, rehearsal, rehearsal_output
 from society_office.asking import Connections
 from society_office.closing import Plan
-from society_office.command_words import PATH, PROGRAM_HELP, WRONG, Command, decided, noted, with_decisions
+from society_office.command_words import PATH, PROGRAM_HELP, WRONG, Amount, Command, decided, noted, with_decisions
 from society_office.copy import Copy, open_copy
 from society_office.decisions import Decisions
 from society_office.errors import OfficeError
@@ -34,7 +34,7 @@ MOST_TOLD = 5
 @click.option("--copy", type=PATH, help="A copy of now (default: the newest of /var/backups/society-staff or society).")
 @click.option("--office", "address", default="http://127.0.0.1:8080", show_default=True, metavar="URL", help="The office.")
 @click.option("--why", metavar="WORDS", help="Why, for the journal; asked for where it is not given.")
-@click.option("--amount", type=int, metavar="UNITS", help="The amount once more; asked for where it is not given.")
+@click.option("--amount", type=Amount(), metavar="UNITS", help="The amount once more; asked for where it is not given.")
 @click.option("--dry-run", is_flag=True, help="Show what it would pay; write and send nothing.")
 @click.option("--approve", is_flag=True, help="Close what another person has asked for, where a pool takes two persons.")
 @click.option("--give-up", is_flag=True, help="Take back a pool that was begun, where the office has not closed it.")

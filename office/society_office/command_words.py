@@ -2,6 +2,7 @@
 
 import math
 import pathlib
+import re
 import sys
 import time
 from typing import Any, NoReturn
@@ -26,6 +27,22 @@ class Number(click.FloatRange):
         return found if math.isfinite(found) else self.fail(f"{value} is no number.", param, ctx)
 
 
+class Amount(click.ParamType):
+    """Units of money: a whole number, with commas between thousands or without; one with cents is told how to write it."""
+
+    name = "units"
+
+    def convert(self, value: Any, param: click.Parameter | None, ctx: click.Context | None) -> int:
+        """The number that a word is."""
+        words = str(value)
+        if CENTS.fullmatch(words):
+            cents = words.replace(".", "").replace(",", "")
+            return self.fail(f"{words} has a point: an amount is whole units, in cents {cents}.", param, ctx)
+        if not UNITS.fullmatch(words):
+            return self.fail(f"{words!r} is no number of units: write 100000 or 100,000.", param, ctx)
+        return int(words.replace(",", ""))
+
+
 class Command(click.Command):
     """A command whose options are given once each, but for those that can be given again: of two amounts none is meant."""
 
@@ -39,6 +56,8 @@ class Command(click.Command):
 
 
 WRONG = 1
+# How an amount is written, and how one that has cents.
+UNITS, CENTS = re.compile(r"-?[0-9]+|-?[0-9]{1,3}(,[0-9]{3})+", re.ASCII), re.compile(r"-?[0-9,]+\.[0-9]{2}", re.ASCII)
 # Seconds of an hour, hours of a day, and how many hours are told as such.
 HOUR, DAY, MANY_HOURS = 3_600, 24, 48
 NUMBER = Number(0, 1_000_000)

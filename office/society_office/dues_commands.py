@@ -10,13 +10,13 @@ import click
 
 from society_office import decisions, dues_output, parties
 from society_office.amendments import Changes, amended, order_of, order_over, orders_as_due, remarks_on, without_void
-from society_office.command_words import COPY_HELP, PATH, POOL, PROGRAM_HELP, Command, decided, noted, with_decisions
+from society_office.command_words import COPY_HELP, PATH, POOL, PROGRAM_HELP, Amount, Command, decided, noted, with_decisions
 from society_office.copy import Copy
 from society_office.credit import asking, closed
 from society_office.decisions import Decisions
 from society_office.dues import Dues, need_within
 from society_office.errors import OfficeError
-from society_office.orders import LARGEST_AMOUNT, Order
+from society_office.orders import Order
 from society_office.own_returns import ROWLESS, amends, corrects
 from society_office.pool_kinds import Book
 from society_office.pool_names import pool_text
@@ -97,7 +97,7 @@ def print_lines(lines: Sequence[dues_output.Line], columns: Sequence[str], form:
 @click.command(cls=Command, epilog=COPY_HELP, short_help="An order as it should have been.")
 @click.argument("copy", type=PATH)
 @click.argument("pool", type=POOL)
-@click.option("--amount", type=click.IntRange(0, LARGEST_AMOUNT), help="The units as they should have been.")
+@click.option("--amount", type=Amount(), help="The units as they should have been.")
 @click.option("--kind", type=click.Choice(["PR", "MR"]), help="The right that it should have paid.")
 @click.option("--cut", multiple=True, metavar="SENDER=N", help="How far a sender's files should have counted (0: not at all), or `now`.")
 @click.option("--returns", multiple=True, metavar="WORDS", help="All that it should have paid, as for propose. Can be given again.")

@@ -6,7 +6,7 @@ import sys
 import click
 
 from society_office import order_output, orders, rehearsal, rehearsal_output
-from society_office.command_words import COPY_HELP, PATH, POOL, PROGRAM_HELP, WRONG, Command, decided, fail, looked_up, noted
+from society_office.command_words import COPY_HELP, PATH, POOL, PROGRAM_HELP, WRONG, Amount, Command, decided, fail, looked_up, noted
 from society_office.command_words import with_decisions
 from society_office.copy import Copy
 from society_office.errors import OfficeError
@@ -51,7 +51,7 @@ def refuse_unknown(copy: Copy, pool: int) -> None:
 
 @click.command(cls=Command, epilog=COPY_HELP, short_help="An order over all that can be paid.")
 @click.argument("copy", type=PATH)
-@click.option("--amount", type=int, required=True, help="The units of the pool.")
+@click.option("--amount", type=Amount(), required=True, help="The units of the pool.")
 @click.option(
     "--kind",
     type=click.Choice(["PR", "MR"]),

@@ -70,3 +70,9 @@ def test_what_another_has_put_stays(program: str, tmp_path: pathlib.Path, is_fas
         office = Office(f"http://127.0.0.1:{port}")
         assert office.ask("PUT", "/v1/returns/TV9/1", b"isrc,plays,seconds\n").status == (200 if is_faster else 201)
         office.close()
+
+
+@pytest.mark.parametrize("words, status", [(["--help"], 0), (["-h"], 0), (["--name", "X"], 2), (["x"], 2)])
+def test_a_word_begins_no_office(words: list[str], status: int) -> None:
+    done = subprocess.run([BEGIN, *words], capture_output=True, text=True, check=False)
+    assert (done.returncode, done.stdout) == (status, "") and done.stderr.startswith("usage: society-begin, as root")

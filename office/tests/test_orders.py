@@ -128,3 +128,18 @@ def test_an_order_is_rehearsed(copy: pathlib.Path, tmp_path: pathlib.Path, progr
     (tmp_path / "order.json").write_bytes(order_body(quarter.POOLS[0]).replace(b"1000003", b"5"))
     assert "is paid by pool 1: leave it out" in run("rehearse", copy, tmp_path / "order.json", "--program", program, status=1, out=True)
     assert copy.read_bytes() == before and {it.name for it in copy.parent.iterdir()} == {"copy.db", "order.json"}
+
+
+@pytest.mark.parametrize(
+    "amount, said",
+    [
+        ("1000.50", "1000.50 has a point: an amount is whole units, in cents 100050."),
+        ("1,000.50", "1,000.50 has a point: an amount is whole units, in cents 100050."),
+        ("1.000,50", "'1.000,50' is no number of units: write 100000 or 100,000."),
+        ("10,00", "'10,00' is no number of units"),
+        ("1e3", "'1e3' is no number of units"),
+    ],
+)
+def test_an_amount_is_whole_units(copy: pathlib.Path, amount: str, said: str) -> None:
+    assert said in run("propose", copy, "--amount", amount, status=2)
+    assert json.loads(run("propose", copy, "--amount", "1,000"))["amount"] == 1_000

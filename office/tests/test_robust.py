@@ -15,7 +15,7 @@ import pytest
 import quarter
 from conftest import ROOT, further, made, running
 from office_value import File, Step
-from society_office import book_log, pages, resending, signals
+from society_office import book_log, checking, pages, resending, signals
 from society_office.copy import open_copy
 from society_office.errors import OfficeError
 from society_office.page_sums import changed
@@ -299,7 +299,9 @@ def test_what_is_no_address(address: str) -> None:
         Office(address)
 
 
-def test_a_trial_office_that_has_the_file_already(tmp_path: pathlib.Path, program: str) -> None:
+def test_a_trial_office_that_has_the_file_already(tmp_path: pathlib.Path, program: str, monkeypatch: pytest.MonkeyPatch) -> None:
+    # (no proxy stands before it, which would say that it is one)
+    monkeypatch.setattr(checking, "TRIAL", "")
     port = free_port()
     with running(program, tmp_path / "trial.db", port, "--connections", "1000"):
         words = ["check", tmp_path / "it.cwr", "--office", f"http://127.0.0.1:{port}"]
