@@ -58,6 +58,7 @@ Commands:
   replay  Answer the requests on standard input on standard output
   serve   Listen on this machine and answer the requests of connections
   audit   Tell whether a file holds the office's book, and write nothing to it
+  credit  Tell what the orders on standard input would credit, and why
 
 Options:
   -h, --help  Print help
@@ -94,8 +95,12 @@ Options:
   -h, --help           Print help
 """
 
+# What `credit --help` tells.
+CREDIT_HELP = AUDIT_HELP.replace("Tell whether a file holds the office's book, and write nothing to it", "Tell what the orders on standard input would credit, and why")
+CREDIT_HELP = CREDIT_HELP.replace("society audit", "society credit")
+
 # Arguments that ask for help, and what it tells.
-HELPS = [("--help", HELP), ("-h", HELP), ("serve|--help", SERVE_HELP), ("audit|--help", AUDIT_HELP)]
+HELPS = [("--help", HELP), ("-h", HELP), ("serve|--help", SERVE_HELP), ("audit|--help", AUDIT_HELP), ("credit|--help", CREDIT_HELP)]
 
 
 @trial

@@ -20,6 +20,7 @@ from program import ROOT, TRIALS, Other, common
 # Each of these adds its trials.
 import arguments
 import connections
+import credits
 import damages
 import endings
 import files
