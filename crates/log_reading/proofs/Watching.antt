@@ -4,7 +4,7 @@ use Rattle.std.proofs.lemmas.Bool.{false≢true, cases_order, cases_lt}
 use Rattle.sqlite_wal.specs.Format.{part, stored_sum, is_big, commit_size}
 use Rattle.sqlite_wal.specs.Recovery.{header, frame, sum_before}
 use Rattle.log_reading.specs.Frames.{SumsFrom, HasFrame, Follows}
-use Rattle.log_reading.specs.Stands.{EndsBehind, EndedBehind, GoesOnBehind}
+use Rattle.log_reading.specs.Stands.{EndsPast, EndedBehind, GoesOnBehind}
 use Rattle.log_reading.proofs.Lemmas.{next_sums}
 
 -- up to frame n nothing goes on behind an end at k; the sums there, and whether a transaction ended and all goes on since
@@ -26,7 +26,7 @@ begin_watch size log k sums s = record {
 }
 
 -- a transaction has ended before the next frame where this one goes on from one, or ends one
-ended_by : (size : ℕ) (log : List ℕ) (k n : ℕ) → (EndedBehind size log k n × Follows size log n) ⊎ EndsBehind size log k n → EndedBehind size log k (n + 1)
+ended_by : (size : ℕ) (log : List ℕ) (k n : ℕ) → (EndedBehind size log k n × Follows size log n) ⊎ EndsPast size log k n → EndedBehind size log k (n + 1)
 ended_by size log k n (inl on) = record {
   last = on.0.last;
   ends = on.0.ends;
@@ -35,9 +35,9 @@ ended_by size log k n (inl on) = record {
 }
 ended_by size log k n (inr ends) = record { last = n; ends = ends; earlier = omega arith; follow = λ m after before. absurd (omega arith) }
 
-ended_before : (size : ℕ) (log : List ℕ) (k n : ℕ) → EndedBehind size log k (n + 1) → (EndedBehind size log k n × Follows size log n) ⊎ EndsBehind size log k n
+ended_before : (size : ℕ) (log : List ℕ) (k n : ℕ) → EndedBehind size log k (n + 1) → (EndedBehind size log k n × Follows size log n) ⊎ EndsPast size log k n
 ended_before size log k n e = elim (cases_order e.last n) [
-  | inl same ↦ inr (subst (λ (it : ℕ). EndsBehind size log k it) same e.ends)
+  | inl same ↦ inr (subst (λ (it : ℕ). EndsPast size log k it) same e.ends)
   | inr (inl low) ↦ inl (record { last = e.last; ends = e.ends; earlier = low; follow = λ m after before. e.follow m after (omega arith) }, e.follow n low (omega arith))
   | inr (inr high) ↦ absurd (omega (arith, e.earlier))
 ]

@@ -22,7 +22,7 @@ abbrev pub EndsWhole : ℕ → List ℕ → ℕ → Type 0
 EndsWhole size log k = (i : ℕ) → i + 1 ≡ k → Commits size log i
 
 -- Frame i, behind an end at k, ends a transaction of this log. Where its sums cannot be tried, since frame k is lost, its salts tell.
-pub record EndsBehind (size : ℕ) (log : List ℕ) (k i : ℕ) : Type 0 where
+pub record EndsPast (size : ℕ) (log : List ℕ) (k i : ℕ) : Type 0 where
   pub behind : k ≤ i
   pub commits : Commits size log i
   pub own : IsSummed (is_big (header log)) size log i ⊎ ((i ≡ k + 1) × (salts size log i ≡ own_salts log))
@@ -30,7 +30,7 @@ pub record EndsBehind (size : ℕ) (log : List ℕ) (k i : ℕ) : Type 0 where
 -- Behind an end at k a transaction ended before frame n, and all frames since go on from it.
 pub record EndedBehind (size : ℕ) (log : List ℕ) (k n : ℕ) : Type 0 where
   pub last : ℕ
-  pub ends : EndsBehind size log k last
+  pub ends : EndsPast size log k last
   pub earlier : last < n
   pub follow : (m : ℕ) → last < m → m < n → Follows size log m
 
