@@ -16,11 +16,11 @@ LINES = [
     # The revision, and the other right.
     ('{"amount":7,"cut":[["S",2]],"returns":[["RADIO1",1]]}', ["2000,7,0,S,W1,1,I00000000199,0,0", "2000,7,0,S,W1,1,I00000000295,10000,7", "2000,7,0,S,W1,1,UNCLAIMED,0,0"]),
     ('{"amount":7,"kind":"MR","cut":[["S",1]],"returns":[["RADIO1",1]]}', ["2000,7,0,S,W1,0,I00000000199,10000,7", "2000,7,0,S,W1,0,I00000000295,0,0", "2000,7,0,S,W1,0,UNCLAIMED,0,0"]),
-    # Both returns; nobody's recording; recordings that are wanted, or are not; no return, where all units are nobody's whatever is wanted.
+    # Both returns; nobody's recording; recordings that are wanted, or are not.
     ('{"amount":3,"cut":[],"returns":[["RADIO1",1],["RADIO1",2]]}', ["2490,3,0,,,,UNCLAIMED,,3"]),
     ('{"amount":3,"cut":[],"isrcs":["at-abc-26-00001"],"returns":[["RADIO1",1]]}', ["2000,3,0,,,,UNCLAIMED,,3"]),
     ('{"amount":3,"cut":[],"isrcs":["GBXYZ2600002"],"returns":[["RADIO1",1]]}', []),
-    ('{"amount":3,"cut":[],"isrcs":[],"returns":[]}', ["-,0,3,0,,,,UNCLAIMED,,3"]),
+    ('{"amount":3,"cut":[],"isrcs":[],"returns":[]}', []),
     # Lines that are refused.
     ('{"amount":1,"cut":[["S",4]],"returns":[]}', "cut S front 26-0001"),
     ('{"amount":1,"cut":[["PB000000034",1]],"returns":[]}', "cut PB000000034 front 0"),
