@@ -352,11 +352,12 @@ def test_the_copy_of_another_office(copy: pathlib.Path, tmp_path: pathlib.Path, 
     assert restored(copy, home / "office.db", program).returncode == 0
 
 
-def test_an_outcome_that_can_not_be_said(copy: pathlib.Path, tmp_path: pathlib.Path, program: str) -> None:
+def test_an_outcome_that_can_not_be_said(copy: pathlib.Path, tmp_path: pathlib.Path, decided: pathlib.Path, program: str) -> None:
     (tmp_path / "home").mkdir()
+    unknown = f"no .tar stands beside the copy, so it is not known whether the decisions in {decided} are older than it"
     backup = [BACKUP, "--db", copy, "--to", tmp_path / "backups", "--program", program]
     restore = [RESTORE, "--from", copy, "--db", tmp_path / "home/office.db", "--service", "none", "--program", program]
-    for words, said in (backup, "is there and sound"), (restore, "is in place; nothing was there before"):
+    for words, said in (backup, "is there and sound"), (restore, f"is in place; nothing was there before; {unknown}"):
         with open("/dev/full", "wb") as full:
             done = subprocess.run(words, stdout=full, stderr=subprocess.PIPE, text=True, check=False)
         assert done.returncode == 1 and f"{said}, but this could not be said on standard output" in done.stderr
