@@ -67,6 +67,6 @@ def test_more_recordings_than_a_line_takes(copy: pathlib.Path, program: str, mon
 def test_a_refusal_is_told(copy: pathlib.Path, program: str) -> None:
     with open_copy(copy) as opened:
         order = Book(opened).orders[1]
-        order.cut.append((quarter.ALPHA, 99))
+        order.cut[:] = [(quarter.ALPHA, 99)]
         with pytest.raises(OfficeError, match="cut PB000000012 front 3"):
             list(asking(program, opened)([Asked(order)]))
