@@ -114,7 +114,7 @@ class Book:
             if key not in self.returns:
                 raise Refused(f"no return {key[0]} {key[1]}")
         points, owners, amount = self.points(map(tuple, order["returns"])), self.owners(cut), order["amount"]
-        if not points:
+        if not points and "isrcs" not in order:
             yield ["-", 0, amount, 0, "", "", "", NOBODY, "", amount]
         whole, wanted = sum(points.values()), order.get("isrcs")
         for isrc, units in zip(points, split(amount, list(points.values())) if points else []):
