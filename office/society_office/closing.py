@@ -111,7 +111,8 @@ def plan(known: Decisions, copy: Copy, body: bytes) -> Plan:
 def refuse_void(it: Plan, known: Decisions) -> None:
     """An OfficeError where an order names what is never to be paid."""
     if barred := [(reporter, number) for reporter, number in it.order["returns"] if are_listed(known.void, (reporter, number))]:
-        raise OfficeError(f"{names_text(barred)} is void, by {known.folder / decisions.VOID}: propose another order")
+        begun = f" (--give-up first takes back pool {it.pool}, which was begun)" if it.begun else ""
+        raise OfficeError(f"{names_text(barred)} is void, by {known.folder / decisions.VOID}: propose another order{begun}")
 
 
 def persons(journal: Sequence[Decided]) -> int:
@@ -158,8 +159,10 @@ def begin(known: Decisions, it: Plan, why: str) -> None:
 
 
 def end(folder: pathlib.Path, word: str, it: Plan, why: str) -> None:
-    """Writes into the journal what became of a pool."""
+    """Writes into the journal what became of a pool, unless another call that ended it too has written that."""
     with decisions.writing(folder) as open_folder:
+        if state_of(open_folder.had.journal).get(it.pool, ("",))[0] == word:
+            return
         open_folder.note(f"{word} {it.words}", why, {kept(it.pool): sum_of(it.body)})
 
 
@@ -202,6 +205,11 @@ def read_back(office: Asked, it: Plan) -> list[Credit]:
         return [(isrc, account, int(units)) for isrc, account, units in rows]
     except (ValueError, UnicodeDecodeError) as error:
         raise no_office(office, answer, f"pools/{it.pool}, which is to be closed; run this again") from error
+
+
+def is_closed_as(office: Asked, it: Plan, wanted: Sequence[Credit]) -> bool:
+    """Whether the office has the pool, and has credited by it just this."""
+    return has_pool(office, it.pool) and read_back(office, it) == list(wanted)
 
 
 def credits_of(copy: Copy, pool: int) -> list[Credit]:

@@ -63,11 +63,9 @@ def close(
             body = order.read_bytes()
             it = closing.plan(known, opened, body)
             if asked["give_up"]:
-                take_back(known, office, it, asked["why"])
+                take_back(known, opened, office, it, asked["why"])
                 return
-            if it.begun is None and it.ended is None:
-                closing.refuse_void(it, known)
-                need_copy_of_now(opened, office, it)
+            need_ready(known, opened, office, it)
             with with_own(find_program(program), opened, it, order.parent) as whole:
                 with rehearsal.rehearse(find_program(program), whole, order, it.pool, known) as found:
                     carry_out(known, office, it, found, order, asked)
@@ -98,24 +96,41 @@ def newest_copy() -> pathlib.Path:
     raise OfficeError("name a copy with --copy")
 
 
-def take_back(known: Decisions, office: Connections, it: Plan, why: str | None) -> None:
-    """Gives up what was begun."""
-    if it.begun is None:
+def take_back(known: Decisions, copy: Copy, office: Connections, it: Plan, why: str | None) -> None:
+    """Gives up what was begun, or closed and then lost by the office."""
+    if it.begun is None and it.ended is None:
         raise OfficeError("this order was not begun, so nothing is to be given up")
+    need_same_society(copy, office)
     closing.give_up(known, office, it, why or click.prompt("Why"))
     say(f"gave up {it.words}; the office has not closed it")
 
 
-def need_copy_of_now(copy: Copy, office: Connections, it: Plan) -> None:
-    """An OfficeError where the office has more than the copy, has another book, or has closed a pool under this number."""
+def need_ready(known: Decisions, copy: Copy, office: Connections, it: Plan) -> None:
+    """An OfficeError where another office or book is served, or the order is not closed yet and pays what is void."""
     need_same_society(copy, office)
-    lacking = [f"pool {it.pool}"] if answered.has_pool(office, it.pool) else []
+    is_there = answered.has_pool(office, it.pool)
+    if is_there and (it.begun or it.ended):
+        return
+    if it.ended:
+        raise OfficeError(
+            f"the office has not pool {it.pool}, which {it.ended.who} closed at {it.ended.when.strftime(MOMENT)} by this very order: "
+            "an older file is served. Bring back first what it has lost (docs/OPERATIONS.md, 'Restore'); where that is nowhere, "
+            "--give-up takes the pool back, and the order can be closed again"
+        )
+    closing.refuse_void(it, known)
+    if it.begun is None:
+        need_copy_of_now(copy, office, it, is_there)
+    if lost := next(answered.lost(copy, office), None):
+        raise OfficeError(f"{copy.path} has what the office has not: {lost.words}. An older file is served, or another office")
+
+
+def need_copy_of_now(copy: Copy, office: Connections, it: Plan, is_there: bool) -> None:
+    """An OfficeError where the office has more than the copy, or has closed a pool under this number."""
+    lacking = [f"pool {it.pool}"] if is_there else []
     lacking += [one.words for one in answered.lacks(copy, office) if one.words not in lacking]
     if lacking:
         told = "; ".join(lacking[:MOST_TOLD]) + (f" and {len(lacking) - MOST_TOLD} more" if len(lacking) > MOST_TOLD else "")
         raise OfficeError(f"the office has what {copy.path} has not: {told}. Take a copy of now: systemctl start society-backup")
-    if lost := next(answered.lost(copy, office), None):
-        raise OfficeError(f"{copy.path} has what the office has not: {lost.words}. An older file is served, or another office")
 
 
 def carry_out(known: Decisions, office: Connections, it: Plan, found: Rehearsal, order: pathlib.Path, asked: dict[str, Any]) -> None:
@@ -157,8 +172,9 @@ def confirmed(known: Decisions, it: Plan, order: pathlib.Path, asked: dict[str, 
 
 
 def ended(known: Decisions, office: Connections, it: Plan, copy: Copy, order: pathlib.Path, why: str) -> None:
-    """Sends what was begun, reads it back, and writes what became of it."""
-    if refusal := closing.send(office, it, order.parent):
+    """Sends what was begun, reads it back, and writes what became of it: what is there as rehearsed is closed, whatever was said."""
+    refusal = closing.send(office, it, order.parent)
+    if refusal and not closing.is_closed_as(office, it, closing.credits_of(copy, it.pool)):
         closing.end(known.folder, "gave up", it, f"the office refuses it: {refusal}"[:500])
         raise OfficeError(f"pool {it.pool} is not closed: {refusal}")
     told = closing.difference(closing.credits_of(copy, it.pool), closing.read_back(office, it))

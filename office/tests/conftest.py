@@ -8,7 +8,7 @@ import shutil
 import subprocess
 import sys
 import tempfile
-from collections.abc import Iterator
+from collections.abc import Iterator, Sequence
 
 import pytest
 
@@ -55,9 +55,11 @@ def program(tmp_path_factory: pytest.TempPathFactory) -> Iterator[str]:
 
 
 @contextlib.contextmanager
-def running(program: str, database: pathlib.Path, port: int, *words: str) -> Iterator[subprocess.Popen[bytes]]:
+def running(
+    program: str, database: pathlib.Path, port: int, *words: str, office: Sequence[str] = OFFICE
+) -> Iterator[subprocess.Popen[bytes]]:
     """An office over a file, which listens; whatever fails meanwhile, it is ended with the `with`."""
-    options = ["--db", str(database), "--port", str(port), *OFFICE, *words]
+    options = ["--db", str(database), "--port", str(port), *office, *words]
     process = subprocess.Popen([program, "serve", *options], stdout=subprocess.PIPE)
     try:
         assert process.stdout and process.stdout.readline() == b"listening\n"

@@ -1,25 +1,21 @@
 """An order closed at an office: one pool, whatever breaks off and whatever answers; nothing over a copy that is not of now."""
 
-import contextlib
 import http.client
-import http.server
 import json
 import pathlib
 import shutil
-import socket
-import threading
-import time
 from collections.abc import Iterator
-from typing import Any
 
 import pytest
 import quarter
 from click.testing import CliRunner
 from conftest import further, put, running
-from society_office import closing, closing_commands, decisions, journal
+from odd_office import odd
+from society_office import answered, closing, closing_commands, decisions, journal
 from society_office.cli import main
 from society_office.copy import open_copy
 from society_office.errors import OfficeError
+from society_office.orders import free_pool
 from society_office.program import free_port
 from test_statements import run
 
@@ -48,8 +44,8 @@ def words(copy: pathlib.Path, address: str, order: pathlib.Path, program: str, *
 
 
 def called(given: list[str], status: int = 0) -> str:
-    """What the command prints, with this status."""
-    done = CliRunner().invoke(main, given, catch_exceptions=False)
+    """What the command prints, with this status; whatever it asks is answered by a word that is no amount."""
+    done = CliRunner().invoke(main, given, input="none\n" * 9, catch_exceptions=False)
     assert done.exit_code == status, done.output
     return done.output
 
@@ -115,7 +111,9 @@ def sent(address: str, path: str, body: bytes) -> None:
 @pytest.mark.parametrize(
     "path, body, what",
     [
-        ("/returns/RADIO1/9", b"isrc,plays,seconds\nATABC2600001,1,1\n", "return RADIO1/9"),
+        ("/returns/RADIO1/5", b"isrc,plays,seconds\nATABC2600001,1,1\n", "return RADIO1/5"),
+        ("/returns/RADIO1/7", b"isrc,plays,seconds\nATABC2600001,1,1\n", "return RADIO1/7"),
+        ("/pools/6", b'{"amount":5,"cut":[],"returns":[]}', "pool 6"),
         ("/pools/8", b'{"amount":5,"cut":[],"returns":[]}', "pool 8"),
         ("/pools/77", b'{"amount":5,"cut":[],"returns":[]}', "a pool (UNCLAIMED has "),
     ],
@@ -124,10 +122,9 @@ def test_a_copy_that_is_not_of_now(
     copy: pathlib.Path, address: str, order: pathlib.Path, program: str, path: str, body: bytes, what: str, decided: pathlib.Path
 ) -> None:
     with open_copy(copy) as opened:
-        assert closing.free_pool(opened) == 6 and ("RADIO1", 6) not in list(opened.rows("SELECT reporter, number FROM returns"))
-    sent(address, path.replace("/RADIO1/9", "/RADIO1/7").replace("/8", "/6"), body)
+        assert free_pool(opened) == 6 and opened.row("SELECT max(number) FROM returns WHERE reporter = 'RADIO1'") == (4,)
+    sent(address, path, body)
     said = called(sure(copy, address, order, program), status=1)
-    what = what.replace("RADIO1/9", "RADIO1/7").replace("pool 8", "pool 6")
     assert f"the office has what {copy} has not: {what}" in said and "systemctl start society-backup" in said
     assert told(decided) == []
 
@@ -169,80 +166,6 @@ def test_two_persons(
     assert (last.who, last.why) == ("bert", "asked by the board (asked for by anna)")
     run("decisions", "--persons", 1, "--why", "back")
     assert closing.persons(decisions.read(decided).journal) == 1
-
-
-class Odd(http.server.BaseHTTPRequestHandler):
-    """What stands before an office and answers as it is told to where a pool is put; else it hands on."""
-
-    office, mode, left = "", "", 0
-    protocol_version = "HTTP/1.1"
-
-    def handed_on(self) -> tuple[int, bytes]:
-        """What the office answers."""
-        body = self.rfile.read(int(self.headers.get("Content-Length", 0)))
-        connection = http.client.HTTPConnection(type(self).office.removeprefix("http://"), timeout=60)
-        connection.request(self.command, self.path, body=body if self.command == "PUT" else None)
-        answer = connection.getresponse()
-        found = answer.status, answer.read()
-        connection.close()
-        return found
-
-    def answer(self, status: int, body: bytes) -> None:
-        """Answers."""
-        self.send_response(status)
-        self.send_header("Content-Length", str(len(body)))
-        self.end_headers()
-        self.wfile.write(body)
-
-    def do_GET(self) -> None:
-        """A question."""
-        if type(self).mode == "forgets" and "/pools/" in self.path:
-            self.answer(404, b'{"error":"unknown"}')
-            return
-        status, body = self.handed_on()
-        if type(self).mode == "other" and "/pools/" in self.path and status == 200:
-            body = body.rsplit(b",", 1)[0] + b",12345\n"
-        self.answer(status, body)
-
-    def do_PUT(self) -> None:
-        """What is put."""
-        kind = type(self)
-        if "/pools/" not in self.path or kind.left == 0 or kind.mode in ("forgets", "other"):
-            self.answer(*self.handed_on())
-            return
-        kind.left -= 1
-        if kind.mode.endswith("after"):
-            self.handed_on()
-        if kind.mode.startswith("hangs"):
-            time.sleep(3)
-        elif kind.mode.startswith("reset"):
-            self.connection.setsockopt(socket.SOL_SOCKET, socket.SO_LINGER, b"\1\0\0\0\0\0\0\0")
-        elif kind.mode == "garbage":
-            self.wfile.write(b"\x00\xffgarbage\r\n\r\n")
-        elif kind.mode == "page":
-            self.answer(200, b"<html>a page</html>")
-        else:
-            self.answer(int(kind.mode[:3]), b'{"error":"busy"}' if kind.mode.startswith("503") else b'{"error":"reused"}')
-            return
-        self.close_connection = True
-
-    def log_message(self, *_: Any) -> None:
-        """Says nothing."""
-
-
-@contextlib.contextmanager
-def odd(address: str, mode: str, left: int = 1_000) -> Iterator[str]:
-    """The address of something odd before an office."""
-    kind = type("Odd", (Odd,), {"office": address, "mode": mode, "left": left})
-    server = http.server.ThreadingHTTPServer(("127.0.0.1", 0), kind)
-    thread = threading.Thread(target=server.serve_forever)
-    thread.start()
-    try:
-        yield f"http://127.0.0.1:{server.server_port}"
-    finally:
-        server.shutdown()
-        thread.join()
-        server.server_close()
 
 
 @pytest.mark.parametrize("mode", ["hangs", "hangs after", "reset", "reset after", "garbage", "page", "503", "503 after", "forgets"])
@@ -329,3 +252,103 @@ def test_what_is_no_order(copy: pathlib.Path, address: str, program: str, tmp_pa
         assert "the file is no order" in called(words(copy, address, tmp_path / "order.json", program), status=1)
     with pytest.raises(OfficeError):
         closing.order_of(b"\xff")
+
+
+@pytest.mark.parametrize("mode", ["409 after", "404 after"])
+def test_a_refusal_of_what_was_taken_counts_for_nothing(
+    copy: pathlib.Path, address: str, order: pathlib.Path, program: str, decided: pathlib.Path, mode: str
+) -> None:
+    with odd(address, mode, left=1) as other:
+        assert "closed pool 6" in called(sure(copy, other, order, program))
+    assert [it.partition(":")[0] for it in told(decided)] == ["closing pool 6", "closed pool 6"]
+
+
+def test_what_is_void_since_it_was_begun_is_not_paid(
+    copy: pathlib.Path, address: str, order: pathlib.Path, program: str, decided: pathlib.Path
+) -> None:
+    before = pools_at(address)
+    with odd(address, "reset") as other:
+        called(sure(copy, other, order, program), status=1)
+    reporter, number = json.loads(order.read_bytes())["returns"][0]
+    run("void", f"{reporter}/{number}", "--why", "a wrong month")
+    said = called(words(copy, address, order, program), status=1)
+    assert f"{reporter}/{number} is void" in said and "--give-up first takes back pool 6, which was begun" in said
+    assert pools_at(address) == before
+
+
+def test_what_is_void_since_it_was_sent_is_told_to_be_closed(
+    copy: pathlib.Path, address: str, order: pathlib.Path, program: str, decided: pathlib.Path
+) -> None:
+    with odd(address, "reset after") as other:
+        called(sure(copy, other, order, program), status=1)
+    reporter, number = json.loads(order.read_bytes())["returns"][0]
+    run("void", f"{reporter}/{number}", "--why", "a wrong month")
+    assert "closed pool 6" in called(words(copy, address, order, program))
+    assert told(decided)[-1].startswith("closed pool 6:")
+
+
+def test_what_was_begun_goes_to_no_other_book(
+    copy: pathlib.Path, address: str, order: pathlib.Path, program: str, decided: pathlib.Path, tmp_path: pathlib.Path
+) -> None:
+    """What was begun at one office is not ended at one of another society, or at one that has lost something."""
+    with odd(address, "reset") as other:
+        called(sure(copy, other, order, program), status=1)
+    port = free_port()
+    for society, what in (("901", "it is the office of another society, or none"), ("900", f"{copy} has what the office has not: ")):
+        office = ["--society", society, "--territory", "40", "--name", "EXAMPLE SOCIETY"]
+        with running(program, tmp_path / f"{society}.db", port, "--connections", "1000", office=office):
+            assert what in called(words(copy, f"http://127.0.0.1:{port}", order, program), status=1)
+    assert [it.partition(":")[0] for it in told(decided)] == ["closing pool 6"]
+
+
+def test_a_pool_that_an_older_file_has_not(
+    copy: pathlib.Path, address: str, order: pathlib.Path, program: str, decided: pathlib.Path, tmp_path: pathlib.Path
+) -> None:
+    """What the journal has as closed, and the office has lost, is told; taken back, it can be closed again."""
+    called(sure(copy, address, order, program))
+    assert "pool 6 is closed, and stays so" in called(words(copy, address, order, program, "--give-up", "--why", "x"), status=1)
+    port = free_port()
+    older = f"http://127.0.0.1:{port}"
+    with running(program, pathlib.Path(shutil.copy(copy, tmp_path / "older.db")), port, "--connections", "100000"):
+        said = called(sure(copy, older, order, program), status=1)
+        assert "the office has not pool 6, which " in said and "an older file is served" in said
+        assert "gave up pool 6" in called(words(copy, older, order, program, "--give-up", "--why", "lost by a restore"))
+        assert "closed pool 6" in called(sure(copy, older, order, program))
+    assert [it.partition(" ")[0] for it in told(decided)] == ["closing", "closed", "gave", "closing", "closed"]
+
+
+def test_a_page_is_no_answer_to_a_return_of_the_office(
+    copy: pathlib.Path, address: str, program: str, tmp_path: pathlib.Path, decided: pathlib.Path
+) -> None:
+    """Where the return of an own order did not come, the order is not refused for it, but ended later."""
+    (tmp_path / "99998.json").write_text(json.dumps({"amount": 0, "cut": [[quarter.ALPHA, 1]], "returns": [["AMEND1", 99_998]]}))
+    (tmp_path / "AMEND1-99998.csv").write_text("isrc,plays,seconds\n")
+    with odd(address, "page", place="/returns/AMEND1/99998") as other:
+        said = called(words(copy, other, tmp_path / "99998.json", program, "--amount", 0, "--why", "x"), status=1)
+    assert "answers 200, as no office does" in said and [it.partition(":")[0] for it in told(decided)] == ["closing pool 99998"]
+    assert "closed pool 99998" in called(words(copy, address, tmp_path / "99998.json", program))
+
+
+def test_another_order_under_its_number(
+    copy: pathlib.Path, address: str, order: pathlib.Path, program: str, decided: pathlib.Path
+) -> None:
+    """Where somebody else has closed another pool under the number meanwhile, what was begun is given up."""
+    with odd(address, "reset") as other:
+        called(sure(copy, other, order, program), status=1)
+    sent(address, "/pools/6", b'{"amount":5,"cut":[],"returns":[]}')
+    assert "pool 6 is not closed: another order stands under this number" in called(words(copy, address, order, program), status=1)
+    assert [it.partition(":")[0] for it in told(decided)] == ["closing pool 6", "gave up pool 6"]
+
+
+def test_two_calls_that_end_it_write_one_line(decided: pathlib.Path) -> None:
+    it = closing.Plan(b"{}", {"amount": 5}, 6)
+    for word in ("closed", "closed", "gave up", "gave up", "closed"):
+        closing.end(decided, word, it, "why")
+    assert [it.partition(" pool")[0] for it in told(decided)] == ["closed", "gave up", "closed"]
+
+
+def test_which_numbers_are_asked_for() -> None:
+    assert answered.numbers_beside([], 99) == [1, 2, 3]
+    assert answered.numbers_beside([1, 2, 4, 7], 99) == [8, 9, 10, 6, 5, 3]
+    assert answered.numbers_beside(range(1, 98), 99) == [98, 99]
+    assert answered.numbers_beside([60], 99) == [61, 62, 63, 59, 58, 57, 56, 55]

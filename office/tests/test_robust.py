@@ -63,9 +63,9 @@ def test_letters_that_the_locale_has_not(copy: pathlib.Path) -> None:
     assert done.returncode == 0 and r"\xd6D\xd6N \xc4RGER" in done.stdout
 
 
-@pytest.mark.parametrize("number", [signal.SIGTERM, signal.SIGHUP, signal.SIGINT])
-def test_a_signal_leaves_no_throw_away_office(copy: pathlib.Path, tmp_path: pathlib.Path, number: int) -> None:
-    begun, room, slow = tmp_path / "begun", tmp_path / "room", tmp_path / "slow"
+def ended_by(copy: pathlib.Path, folder: pathlib.Path, number: int) -> tuple[int, int]:
+    """The status of a command that gets a signal while its throw-away office starts, and the process of that office."""
+    begun, room, slow = folder / "begun", folder / "room", folder / "slow"
     room.mkdir()
     slow.write_text(f"#!/bin/sh\necho $$ > {begun}.new && mv {begun}.new {begun}\nexec sleep 600\n")
     slow.chmod(0o755)
@@ -75,11 +75,33 @@ def test_a_signal_leaves_no_throw_away_office(copy: pathlib.Path, tmp_path: path
         while not begun.exists() and time.monotonic() < until:
             time.sleep(0.01)
         process.send_signal(number)
-        # (Ctrl-C is click's, which says so and ends with status 1)
-        assert process.wait(60) == (1 if number == signal.SIGINT else -number)
-    assert list(room.iterdir()) == []
+        return process.wait(60), int(begun.read_text())
+
+
+@pytest.mark.parametrize("number", [signal.SIGTERM, signal.SIGHUP, signal.SIGINT])
+def test_a_signal_leaves_no_throw_away_office(copy: pathlib.Path, tmp_path: pathlib.Path, number: int) -> None:
+    status, office = ended_by(copy, tmp_path, number)
+    # (Ctrl-C is click's, which says so and ends with status 1)
+    assert status == (1 if number == signal.SIGINT else -number)
+    assert list((tmp_path / "room").iterdir()) == []
     with pytest.raises(ProcessLookupError):
-        os.kill(int(begun.read_text()), 0)
+        os.kill(office, 0)
+
+
+def test_a_kill_leaves_no_throw_away_office(copy: pathlib.Path, tmp_path: pathlib.Path) -> None:
+    status, office = ended_by(copy, tmp_path, signal.SIGKILL)
+    until = time.monotonic() + 10
+    while is_running(office) and time.monotonic() < until:
+        time.sleep(0.01)
+    assert (status, is_running(office)) == (-signal.SIGKILL, False)
+
+
+def is_running(process: int) -> bool:
+    """Whether a process goes on; one that waits to be seen by whoever started it does not."""
+    try:
+        return pathlib.Path(f"/proc/{process}/stat").read_text().rpartition(")")[2].split()[0] != "Z"
+    except FileNotFoundError:
+        return False
 
 
 def test_a_signal_is_put_off() -> None:
