@@ -21,13 +21,13 @@ class Proxy:
 
     `senders` are the pairs of senders.json. `account` is the user of the system as whom all of nginx runs; without it nginx runs as
     who started it, and its worker as the one that its packager chose where that is root. `changes` are texts of the configuration, each
-    with what is put in its place. Nightly pages, a few files in place of those, are in `pages`.
+    with what is put in its place. Nightly pages, a few files in place of those, are in `pages`, and in `known` what a mirror looks for.
     """
 
     def __init__(self, folder, office_port, users, senders, account=None, trial_office_port=None, changes=()):
         self.port, self.trial_port, self.home = common.free_port(), common.free_port(), folder / "proxy"
         self.pages, self.trial_office_port = self.home / "pages", trial_office_port or common.free_port()
-        self.system_log = self.home / "system_log"
+        self.system_log, self.known = self.home / "system_log", self.home / "known"
         self.home.mkdir()
         self.configure(office_port, changes)
         self.make_pages(users)
@@ -51,7 +51,7 @@ class Proxy:
         """The example with other ports; without a trial office its port leads to one that nobody listens on."""
         text = (ROOT / "examples/nginx.conf").read_text()
         ports = {"8443": self.port, "8444": self.trial_port, "8445": common.free_port(), "8080": office_port, "8081": self.trial_office_port}
-        places = {"/var/lib/society-site": self.pages, "/dev/log": self.system_log}
+        places = {"/var/lib/society-site": self.pages, "/run/society-standby": self.known, "/dev/log": self.system_log}
         for old, new in [*changes, *((old, str(new)) for old, new in (places | ports).items())]:
             assert old in text, f"examples/nginx.conf has no {old}"
             text = text.replace(old, new)

@@ -33,6 +33,7 @@ from proxy import SECRET, Proxy
 
 sys.path[:0] = [str(ROOT / "office"), str(ROOT / "office/tests")]
 import random_office  # noqa: E402 (the folders of the checkout come first)
+from society_office import mirroring  # noqa: E402
 
 SENDERS, STATIONS = random_office.SENDERS, ["station-RADIO1", "station-TV1"]
 USERS = [*SENDERS, *STATIONS, OFFICE]
@@ -148,6 +149,8 @@ class Machines:
             self.proxy("plain", self.office_port, [mirror_to(self.addresses[0]), *changes]),
             self.proxy("secure", self.office_port, [mirror_to(f"https://127.0.0.1:{self.ways[1].port}"), lines, *changes]),
         ]
+        for proxy, address in zip(self.proxies, (self.addresses[0], f"https://127.0.0.1:{self.ways[1].port}")):
+            mirroring.make(proxy.known, mirroring.place_of(proxy.known, address))
         (folder / "netrc").write_text(f"machine localhost login {OFFICE} password {SECRET}\n")
 
     def proxy(self, name, office_port, changes=()):
@@ -406,6 +409,33 @@ def is_told(machines, kind, path, one, other):
     return is_right
 
 
+def nothing_to_others(machines):
+    """An office of another society at the standby's address gets nothing: society-standby asks it first."""
+    proxy, address, path = machines.proxies[0], machines.addresses[0], f"/senders/{SENDERS[0]}/transmissions"
+    place = mirroring.place_of(proxy.known, address)
+    resend = ["--to", address, "--known", proxy.known, "--state", machines.folder / "state.json", "--wait", "1"]
+    with served(machines) as folder, tempfile.TemporaryDirectory() as other:
+        user = User(proxy, SENDERS[0])
+        statuses = [user.put(f"{path}/1", common.NO_WORKS)[0]]
+        copy = copied(machines, folder / "office.db", f"{folder.name}/copies")
+        found = [(office_tool(machines, "resend", copy, *resend)[0], place.exists())]
+        machines.standby.end()
+        words = ["--db", f"{other}/other.db", "--port", str(machines.standby.port), "--connections", "1000", "--society", "901"]
+        command = [machines.program, "serve", *words, "--territory", "40", "--name", "OTHER"]
+        with subprocess.Popen(command, stdout=subprocess.PIPE, text=True) as strange:
+            strange.stdout.readline()
+            said = office_tool(machines, "resend", copy, *resend)[1]
+            found += [("is no office of society" in " ".join(said), place.exists())]
+            statuses += [user.put(f"{path}/{it}", common.NO_WORKS)[0] for it in (2, 3)]
+            time.sleep(1)
+            with contextlib.closing(http.client.HTTPConnection("127.0.0.1", machines.standby.port, timeout=10)) as it:
+                front = common.ask(it, "GET", f"/v1{path.rpartition('/')[0]}")[1]
+            strange.kill()
+        machines.standby.begin(folder / "standby.db")
+        found += [(office_tool(machines, "resend", copy, *resend)[0], place.exists())]
+    return (statuses, found, front) == ([201] * 3, [(0, True), (True, False), (0, True)], b'{"front":0,"held":[]}')
+
+
 # Each case, with lines of examples/nginx.conf without which it fails.
 HOP = "proxy_pass http://127.0.0.1:8445$request_uri;"
 CASES = {
@@ -416,6 +446,7 @@ CASES = {
         ('        8444 "";\n', ""),
         ('Authorization "";\n            proxy_ignore', "X-Other 1; proxy_ignore"),
     ],
+    nothing_to_others: [("            if (!-f /run/society-standby/$standby) {", "            if ($is_mirrored = 0) {")],
     two_contents: [],
 }
 

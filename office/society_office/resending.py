@@ -140,19 +140,29 @@ def how_many(copy: Copy) -> int:
     return sum(int(copy.row(f"SELECT count(*) FROM {table}")[0]) for table in tables)
 
 
+def empty_file(copy: Copy) -> Request:
+    """An empty file, which no office takes, by a name that has the society: to an office of another one it is no path at all."""
+    (sender,) = copy.row("SELECT sender FROM transmissions") or (ANY_SENDER,)
+    return Request(FILE, f"senders/{sender}/{path_of(rank_in(0, 1), copy.society)}", b"")
+
+
+def is_of_same_society(copy: Copy, office: Connections) -> bool:
+    """Whether an office of the copy's society answers: it refuses the empty file for what it is."""
+    answer = office.ask(empty_file(copy))
+    return answer.status == 422 and answer.error == "file"
+
+
 def need_same_society(copy: Copy, office: Connections) -> None:
     """An OfficeError where the other office is of another society: what it would take can't be taken back.
 
-    It is asked to take an empty file, which no office does, by a name that has the society: of another one that is no path at all. So it
-    is again where a connection broke, before anything is put over the next one.
+    So it is asked again where a connection broke, before anything is put over the next one.
     """
-    (sender,) = copy.row("SELECT sender FROM transmissions") or (ANY_SENDER,)
-    name = path_of(rank_in(0, 1), copy.society)
-    if office.ask(Request(FILE, f"senders/{sender}/{name}", b"")).status == 404:
+    asked = empty_file(copy)
+    if office.ask(asked).status == 404:
         raise OfficeError(
             f"{office.address} takes no file of society {copy.society}: it is the office of another society, or none. Nothing was sent"
         )
-    office.ask_first(Request(str(copy.society), f"senders/{sender}/{name}", b""))
+    office.ask_first(Request(str(copy.society), asked.path, asked.body))
 
 
 def resend(copy: Copy, office: Connections, since_fronts: bool, tell: Callable[[], None]) -> Tally:

@@ -6,7 +6,7 @@ from typing import Any
 
 import click
 
-from society_office import following, rebuilding
+from society_office import following, mirroring, rebuilding
 from society_office.answered import lacks
 from society_office.asking import Connections, access_by_netrc
 from society_office.command_words import COPY_HELP, NUMBER, PATH, PROGRAM_HELP, WRONG, noted
@@ -101,18 +101,19 @@ def tell_differs(copy: pathlib.Path, other: str, works: int, **access: Any) -> N
     metavar="MINUTES",
     help="With --state: status 1 where it is behind for longer.",
 )
+@click.option("--known", type=PATH, metavar="FOLDER", help="Makes FOLDER/URL while an office of the same society answers: for a mirror.")
 @with_access
-def send_again(copy: pathlib.Path, address: str, since_fronts: bool, state: pathlib.Path | None, behind: float, **access: Any) -> None:
+def send_again(copy: pathlib.Path, address: str, since_fronts: bool, state: pathlib.Path | None, behind: float, **words: Any) -> None:
     """Sends all that a copy has of what was sent to another office: ends, files, returns, orders.
 
     What it has already changes nothing, so where it was broken off run it again. It tells how much was new to the other office, how much
     it knew, and what it refused and why; then the status is 1. With --state a standby that does not answer is told, and the status is 1
     only where it has been behind for longer than --behind.
     """
-    follower = following.begun(state, address) if state else None
+    follower, known = following.begun(state, address) if state else None, words.pop("known")
     with open_copy(copy) as opened:
         try:
-            found = sent_to(noted(opened), address, since_fronts, access, follower is not None)
+            found = sent_to(noted(opened), connected(address, **words), since_fronts, follower is not None, known)
         except OfficeError as error:
             if follower is None or state is None:
                 raise
@@ -130,11 +131,10 @@ def send_again(copy: pathlib.Path, address: str, since_fronts: bool, state: path
     sys.exit(WRONG if follower.refused or follower.ahead or follower.minutes > behind else 0)
 
 
-def sent_to(copy: Copy, address: str, since_fronts: bool, access: dict[str, Any], is_followed: bool) -> Tally:
-    """What became of what was sent to the office at an address; of one that is followed also what it has beyond the copy."""
-    office = connected(address, **access)
+def sent_to(copy: Copy, office: Connections, since_fronts: bool, is_followed: bool, known: pathlib.Path | None) -> Tally:
+    """What became of what was sent to an office; of one that is followed also what it has beyond the copy."""
     try:
-        with counting("sent", how_many(copy)) as tell:
+        with mirroring.told(known, copy, office), counting("sent", how_many(copy)) as tell:
             found = resend(copy, office, since_fronts, tell)
         if is_followed and copy.layout > 1:
             found.beyond = [it.words for it in lacks(copy, office)]
