@@ -13,7 +13,7 @@ from typing import Any
 import click
 
 from society_office import __version__, account_commands, checking, closing_commands, decision_commands, dues_commands, findings
-from society_office import health, money_commands, parties, signals, standby_commands, statement_output, why
+from society_office import health, money_commands, parties, signals, standby_commands, statement_output, why, why_output
 from society_office.command_words import COPY_HELP, NUMBER, PATH, POOL, PROGRAM_HELP, WRONG, Command, fail, looked_up, names_known
 from society_office.command_words import noted, with_decisions
 from society_office.copy import beside
@@ -243,15 +243,15 @@ def check(
 @main.command("why", epilog=COPY_HELP, short_help="What became of a sender's files.")
 @click.argument("copy", type=PATH)
 @click.argument("sender")
-def tell_why(copy: pathlib.Path, sender: str) -> None:
+@click.option("--format", "form", type=click.Choice(list(why_output.FORMS)), default="table", help="How it is written.")
+def tell_why(copy: pathlib.Path, sender: str, form: str) -> None:
     """What became of the files that a sender has sent, and what was registered since.
 
     SENDER is its key, as PB000000012. Files that wait are listed with what they wait for, and rejected works with every fault, its line,
     record and field, its cure, and what is registered under their number now.
     """
     with open_whole(copy) as opened:
-        for line in why.lines(why.story(noted(opened), sender)):
-            say(line)
+        sys.stdout.write(why_output.FORMS[form](why.story(noted(opened), sender)))
 
 
 @main.command("health", short_help="Whether the office is well.")
