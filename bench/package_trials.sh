@@ -13,7 +13,7 @@ set -eu
 here=$(cd "$(dirname "$(readlink -f "$0")")/.." && pwd)
 # The packages from before are those of this commit, whose office is the user `office`'s.
 OLDER=068e29d2
-NEEDED=adduser,curl,openssl,python3,python3-click,python3-jinja2,python3-rich,sqlite3,nginx-light,logrotate,systemd,systemd-sysv
+NEEDED=adduser,bash-completion,curl,openssl,python3,python3-click,python3-jinja2,python3-rich,sqlite3,nginx-light,logrotate,rsync,systemd,systemd-sysv
 
 # What both machines use.
 both() {
@@ -21,8 +21,8 @@ both() {
 export DEBIAN_FRONTEND=noninteractive no_proxy=127.0.0.1,localhost
 file=/var/lib/society/office.db settings=/etc/society/office.conf
 o=http://127.0.0.1:23080/v1 s=https://localhost:8443 proxy=/etc/society/proxy
-units="society society-proxy society-trial society-site society-health society-backup society-standby society-rebuild"
-timers="society-backup.timer society-site.timer society-health.timer society-standby.timer society-rebuild.timer"
+units="society society-proxy society-trial society-site society-health society-backup society-standby society-standby-files society-rebuild"
+timers="society-backup.timer society-site.timer society-health.timer society-standby.timer society-standby-files.timer society-rebuild.timer"
 
 # What a command prints has to have this text in it: `has NAME TEXT COMMAND ..`.
 has() {
@@ -54,11 +54,12 @@ INSIDE
 one() {
   cat <<'INSIDE'
 has "installed" "Setting up society-office" install_these /srv/society_*.deb /srv/society-office_*.deb
-has "no service is enabled" "8 disabled" sh -c "systemctl is-enabled society society-proxy society-trial $timers | sort | uniq -c"
+has "no service is enabled" "9 disabled" sh -c "systemctl is-enabled society society-proxy society-trial $timers | sort | uniq -c"
 for it in $units; do
   has "the unit $it" "status 0" sh -c "systemd-analyze verify --man=no $it.service; echo status \$?"
   # (a backup has to be root's, halts another's process, and reads its files)
-  if [ $it = society-backup ]; then most=1.8; else most=1.5; fi
+  # (and what brings files to the standby has to be root's, who has the key to it)
+  case $it in society-backup | society-standby-files) most=1.8 ;; *) most=1.5 ;; esac
   echo "exposure of $it: $(exposure $it)" >> /srv/seen
   has "exposure of $it" within at_most "$(exposure $it)" $most
 done
@@ -121,9 +122,30 @@ has "a backup by its unit, while the office runs" "Result=success" ended society
 has "who may read it" "root society-staff 640" stat -c '%U %G %a' "$(newest)"
 has "and its folder" "root society-staff 750" stat -c '%U %G %a' /var/backups/society
 has "it is sound" "sound; halted for" journalctl -q -u society-backup
+has "who decides" "root society-staff 2770" stat -c '%U %G %a' /var/lib/society-decisions
+has "and its lists" "root society-staff 660" stat -c '%U %G %a' /var/lib/society-decisions/void.txt
+adduser --quiet --disabled-password --gecos '' anna && adduser --quiet anna society-staff
+as() { runuser -u anna -- "$@"; }
+backed_up() { systemctl start society-backup; }
+for it in 1 2; do ask -o /dev/null -T /usr/share/society/examples/first.csv $o/returns/TV7/$it; done
+backed_up
+has "who is none of the staff decides nothing" "Permission denied" runuser -u nobody -- society-office void TV7/2 --why 'a wrong month'
+has "one of the staff decides" "TV7/2: never to be paid" as society-office void TV7/2 --why 'a wrong month'
+as mkdir -m 755 /home/anna/orders
+has "what is void is not proposed" '"returns":[["TV7",1]]' as sh -c "society-office propose \$(ls -t /var/backups/society/*.db | head -n 1) --amount 500 --output ~anna/orders/order.json > /dev/null 2>&1; cat ~anna/orders/order.json"
+echo '{"amount":500,"cut":[["PB000000012",1]],"returns":[["TV7",2]]}' > /home/anna/orders/wrong.json
+closing() { as society-office close /home/anna/orders/$1.json --office http://127.0.0.1:23080 --amount 500 --why 'asked by the board'; }
+has "nor paid" "TV7/2 is void, by /var/lib/society-decisions/void.txt" closing wrong
+has "a pool is closed, over the newest backup" "closed pool 1: 500 units of the PR, just as rehearsed" closing order
+has "who has closed it, and why" "anna	closed pool 1: 500 units of the PR	asked by the board" cat /var/lib/society-decisions/journal.txt
+backed_up
+cp "$(newest)" /srv/backup.db && newest | sed 's/db$/tar/' | xargs -I {} cp {} /srv/backup.tar
 has "a trial office over it" '{"front":1,"held":[]}' sh -c "systemctl start society-trial; curl -sS --retry 30 --retry-delay 1 --retry-connrefused http://127.0.0.1:8081/v1/senders/PB000000012"
 has "behind the proxy too" '{"front":1,"held":[]}' tls PB000000012 https://localhost:8444/v1/senders/PB000000012
 has "pages by their unit" "Result=success" ended society-site
+has "the version is the package's" "version $(dpkg-query -W -f '${Version}' society-office)" society-office --version
+has "words are completed" "plain,propose" bash -ic 'source /usr/share/bash-completion/completions/society-office; complete -p society-office
+  COMP_WORDS="society-office prop" COMP_CWORD=1 _SOCIETY_OFFICE_COMPLETE=bash_complete society-office'
 has "a page through the proxy" "text/html" tls office -o /dev/null -w '%{content_type}' $s/site/index.html
 has "with its style" "text/css" tls office -o /dev/null -w '%{content_type}' $s/site/office.css
 has "a sender's own statement" "<h1>Statement of PB000000012" bash -c "$(declare -f tls); proxy=$proxy; $(printf '%s' 'ask() { curl -sS -H Expect: "$@"; }'); o=$o
@@ -143,7 +165,6 @@ has "health of a file that was moved away" "does not write" sh -c 'systemctl sta
 has "and a backup of it" "does not write" sh -c 'systemctl start society-backup; journalctl -q -n 5 -u society-backup'
 mv /var/lib/society/away $file
 has "a backup with the office down" "Result=success" sh -c 'systemctl stop society; systemctl start society-backup; systemctl show society-backup -p Result'
-cp "$(newest)" /srv/backup.db
 systemctl start society
 
 second() { ask http://127.0.0.1:8082/v1/senders/PB000000012; }
@@ -156,6 +177,7 @@ second_office
 has "a standby, begun empty" '{"front":0,"held":[]}' second
 has "what it lacks, by its unit" "Result=success" ended society-standby
 has "it has all" '{"front":1,"held":[]}' second
+has "the proxy may know it" "127.0.0.1:8082" ls /run/society-standby/http:
 has "that is told" "has all that came until" journalctl -q -u society-standby
 has "the mirror is on by a line" 201 bash -c "sed -i '0,/        default \"\";/s//        default http:\/\/127.0.0.1:8082;/' $proxy/nginx.conf; systemctl reload society-proxy; sleep 2
   $(declare -f tls put_by_proxy); proxy=$proxy; s=$s; put_by_proxy 2"
@@ -174,10 +196,20 @@ rm /etc/default/society-office
 has "back again" "Result=success" ended society-standby
 has "it has all" '{"front":3,"held":[]}' second
 has "of its copies the newest stays" 1 sh -c 'ls /var/lib/society-standby/*.db | wc -l'
+mkdir /srv/standby /etc/systemd/system/society-standby-files.service.d
+printf '[Service]\nReadWritePaths=/srv/standby\nCapabilityBoundingSet=CAP_CHOWN CAP_FOWNER CAP_DAC_OVERRIDE\n' > /etc/systemd/system/society-standby-files.service.d/here.conf
+systemctl daemon-reload
+has "without a place nothing is brought" "Result=exit-code" ended society-standby-files
+echo 'STANDBY_FILES=/srv/standby/' > /etc/default/society-office
+has "what was decided is brought" "Result=success" ended society-standby-files
+has "and the proxy's folder" "same" sh -c "diff -r /var/lib/society-decisions /srv/standby/var/lib/society-decisions && diff -r $proxy /srv/standby$proxy && echo same"
+has "a standby that decides by itself" "never to be paid" society-office void TV7/9 --why x --decisions /srv/standby/var/lib/society-decisions
+has "keeps what it has" "/srv/standby/ has decided by itself: void TV7/9" sh -c 'systemctl start society-standby-files; journalctl -q -n 5 -u society-standby-files'
+rm /etc/default/society-office
 systemctl stop second
 has "another backup" "Result=success" ended society-backup
 has "rebuilt by its unit" "Result=success" ended society-rebuild
-has "that is told" "follows from what was sent: 3 files, 1 return, 1 pool" journalctl -q -u society-rebuild
+has "that is told" "follows from what was sent: 3 files, 3 returns, 2 pools" journalctl -q -u society-rebuild
 
 kept=$(book)
 has "an upgrade tells what goes on as before" "systemctl restart society-proxy" install_these --reinstall /srv/society_*.deb
@@ -199,6 +231,8 @@ has "the book is the same" same is_same_book
 has "the backups are there" "office-" newest
 has "settings are gone" "No such file" cat $settings
 has "no link that leads nowhere" none dangling
+has "what goes is told" "/var/lib/society-site is taken away" cat /srv/purged
+has "what was decided stays" "TV7/2" cat /var/lib/society-decisions/void.txt
 has "what was made of copies is gone" "No such file" ls /var/lib/society-site
 has "also for a standby" "No such file" ls /var/lib/society-standby
 has "installed after a purge" "Setting up society-office" install_these /srv/society_*.deb /srv/society-office_*.deb
@@ -224,7 +258,7 @@ has "upgraded while it runs" "the office runs the program of before" install_the
 has "it runs on" '{"front":1,"held":[]}' front
 has "the book is the same" same is_same_book
 has "its owner stays" "office office 600" stat -c '%U %G %a' $file
-has "all units are there" "8" sh -c "for it in $units; do systemctl cat \$it.service > /dev/null && echo \$it; done | wc -l"
+has "all units are there" "9" sh -c "for it in $units; do systemctl cat \$it.service > /dev/null && echo \$it; done | wc -l"
 has "still enabled" "enabled enabled enabled enabled" sh -c 'systemctl is-enabled society society-backup.timer society-site.timer society-health.timer | xargs'
 has "started again" '{"front":1,"held":[]}' sh -c "systemctl restart society; $(declare -f ask front); o=$o; front"
 has "as its owner" "office" sh -c 'ps -o user= -p "$(systemctl show -p MainPID --value society)" 2> /dev/null || stat -c %U /proc/$(systemctl show -p MainPID --value society)'
@@ -263,12 +297,16 @@ has "the folder is that user's" "_society nogroup 750" stat -c '%U %G %a' /var/l
 forget _society
 has "installed on a new machine" "Setting up society-office" install_these /srv/society_*.deb /srv/society-office_*.deb
 fill_in
+tar -C / -xpf /srv/backup.tar
+has "what was decided comes with the backup" "1 line of void returns" society-office decisions
 restore() { society-restore --from "$1" --db $file --port 23080 --sender PB000000012 --front "$2" 2>&1 | tee /srv/told; }
 has "a backup of the first machine restored" "nothing was there before" restore /srv/backup.db 1
 has "its owner" "_society _society 600" stat -c '%U %G %a' $file
 has "it is told that no start starts it" "systemctl enable society" sh -c 'cat /srv/told'
 systemctl --quiet enable society
 has "served" '{"front":1,"held":[]}' front
+has "nor is what is void paid there" "TV7/2 is void" sh -c "echo '{\"amount\":500,\"cut\":[[\"PB000000012\",1]],\"returns\":[[\"TV7\",2]]}' > /srv/wrong.json
+  society-office close /srv/wrong.json --copy /srv/backup.db --office http://127.0.0.1:23080 --amount 500 --why x"
 has "a further file" 201 send 2
 has "restored over a running office" "what was there is in" restore /srv/backup.db 1
 INSIDE
@@ -315,14 +353,14 @@ machine() {
   cp -r "$folder/older" "$root/srv"
   cp "$here/examples/first.cwr" "$root/srv/1.cwr"
   sed s/NWR/REV/ "$here/examples/first.cwr" > "$root/srv/2.cwr"
-  [ ! -e "$folder/backup.db" ] || cp "$folder/backup.db" "$root/srv"
+  [ ! -e "$folder/backup.db" ] || cp "$folder/backup.db" "$folder/backup.tar" "$root/srv"
   { both && "$1"; } > "$root/srv/trials"
   printf '[Unit]\nAfter=multi-user.target\n[Service]\nType=oneshot\nExecStart=/bin/bash /srv/trials\nExecStopPost=/bin/systemctl poweroff --force\n%s\n%s\n' \
     StandardOutput=file:/srv/printed StandardError=inherit > "$root/etc/systemd/system/trials.service"
   mkdir -p "$root/etc/systemd/system/graphical.target.wants"
   ln -sf ../trials.service "$root/etc/systemd/system/graphical.target.wants/trials.service"
   systemd-nspawn --quiet --register=no --keep-unit --private-network -D "$root" --boot < /dev/null > "$folder/boot-$1.log" 2>&1 || true
-  [ ! -e "$root/srv/backup.db" ] || cp "$root/srv/backup.db" "$folder"
+  [ ! -e "$root/srv/backup.db" ] || cp "$root/srv/backup.db" "$root/srv/backup.tar" "$folder"
   sed "s/^/$1: /" "$root/srv/printed"
   sed "s/^/$1 saw: /" "$root/srv/seen" 2> /dev/null || true
 }

@@ -6,8 +6,8 @@ proxy. Between nginx and the standby a tenth of the puts is lost and a tenth com
 halted, and slow, in every eighth round away till all was put. In every third it stands behind a proxy of its own, with TLS and a password.
 Whoever puts must notice nothing. Then society-backup copies the office, and `society-office resend` sends the copy, with the same trouble; it
 is run again where it ended without an answer. Both files have to be the same then, row for row, and to answer the same. Besides: what the
-mirror may never bring, a standby that hangs or answers nonsense, and a number with two contents, of which `compare` has to say just that. With
-`--planted` the cases are tried without their lines of the configuration, where each of them has to fail. Ends with status 1 where anything
+mirror may never bring, a standby that hangs or answers nonsense, one of another society, a number with two contents, of which `compare` has to say
+just that, and a year with void returns, a restore, and the standby in service (standby_year.py). With `--planted` the cases are tried without their lines of the configuration, where each of them has to fail. Ends with status 1 where anything
 differs.
 """
 import base64
@@ -27,6 +27,7 @@ import threading
 import time
 
 import common
+import standby_year
 from common import CSV_HEADER, FIRST, ROOT, Server, changed, order_body
 from edge_asking import OFFICE, asked
 from proxy import SECRET, Proxy
@@ -295,7 +296,7 @@ def served(machines):
         machines.ways[0].lost = machines.ways[0].late = machines.standby.delay = 0
         machines.standby.begin(folder / "standby.db")
         try:
-            with Server(machines.program, folder / "office.db", machines.office_port):
+            with Server(machines.program, folder / "office.db", machines.office_port) as machines.office:
                 yield folder
         finally:
             machines.standby.server.process.send_signal(signal.SIGCONT)
@@ -436,6 +437,25 @@ def nothing_to_others(machines):
     return (statuses, found, front) == ([201] * 3, [(0, True), (True, False), (0, True)], b'{"front":0,"held":[]}')
 
 
+def a_year(machines):
+    """A year by the documents: what is void is paid by nobody, also after a restore and in the standby's service (standby_year.py)."""
+    with served(machines) as folder, contextlib.ExitStack() as stack:
+
+        @contextlib.contextmanager
+        def restored(copy):
+            """The office over an older copy, by society-restore; it goes on behind the `with`."""
+            machines.office.kill()
+            words = ["--from", copy, "--db", folder / "office.db", "--service", "none", "--program", machines.program]
+            subprocess.run([ROOT / "debian/bin/society-restore", *words], check=True, capture_output=True)
+            machines.office = stack.enter_context(Server(machines.program, folder / "office.db", machines.office_port))
+            yield
+
+        wrong = standby_year.of_the_year(machines, folder, restored, lambda name: User(machines.proxies[0], name))
+    for it in wrong:
+        print(f"  {it}", flush=True)
+    return wrong == []
+
+
 # Each case, with lines of examples/nginx.conf without which it fails.
 HOP = "proxy_pass http://127.0.0.1:8445$request_uri;"
 CASES = {
@@ -448,6 +468,7 @@ CASES = {
     ],
     nothing_to_others: [("            if (!-f /run/society-standby/$standby) {", "            if ($is_mirrored = 0) {")],
     two_contents: [],
+    a_year: [],
 }
 
 
@@ -469,6 +490,7 @@ def main():
     options = common.parser(__doc__)
     options.add_argument("--rounds", type=int, default=50)
     options.add_argument("--first", type=int, default=0, help="the number of the first round")
+    options.add_argument("--case", default="", help="only the cases with this in their names")
     options.add_argument("--planted", action="store_true", help="try the cases without their lines")
     options = options.parse_args()
     with tempfile.TemporaryDirectory(ignore_cleanup_errors=True) as folder:
@@ -479,7 +501,7 @@ def main():
         else:
             machines = Machines(options.program, folder)
             try:
-                for case in CASES:
+                for case in (it for it in CASES if options.case in it.__name__):
                     check(case.__doc__, case(machines))
                     print(f"tried: {case.__doc__}", flush=True)
                 for number in range(options.first, options.first + options.rounds):
