@@ -124,17 +124,17 @@ has "and its folder" "root society-staff 750" stat -c '%U %G %a' /var/backups/so
 has "it is sound" "sound; halted for" journalctl -q -u society-backup
 has "who decides" "root society-staff 2770" stat -c '%U %G %a' /var/lib/society-decisions
 has "and its lists" "root society-staff 660" stat -c '%U %G %a' /var/lib/society-decisions/void.txt
-adduser --quiet --disabled-password --gecos '' anna && adduser --quiet anna society-staff
+adduser --quiet --disabled-password --no-create-home --gecos '' anna && adduser --quiet anna society-staff
 as() { runuser -u anna -- "$@"; }
 backed_up() { systemctl start society-backup; }
 for it in 1 2; do ask -o /dev/null -T /usr/share/society/examples/first.csv $o/returns/TV7/$it; done
 backed_up
 has "who is none of the staff decides nothing" "Permission denied" runuser -u nobody -- society-office void TV7/2 --why 'a wrong month'
 has "one of the staff decides" "TV7/2: never to be paid" as society-office void TV7/2 --why 'a wrong month'
-as mkdir -m 755 /home/anna/orders
-has "what is void is not proposed" '"returns":[["TV7",1]]' as sh -c "society-office propose \$(ls -t /var/backups/society/*.db | head -n 1) --amount 500 --output ~anna/orders/order.json > /dev/null 2>&1; cat ~anna/orders/order.json"
-echo '{"amount":500,"cut":[["PB000000012",1]],"returns":[["TV7",2]]}' > /home/anna/orders/wrong.json
-closing() { as society-office close /home/anna/orders/$1.json --office http://127.0.0.1:23080 --amount 500 --why 'asked by the board'; }
+install -d -o anna /srv/orders
+has "what is void is not proposed" '"returns":[["TV7",1]]' as sh -c "society-office propose \$(ls -t /var/backups/society/*.db | head -n 1) --amount 500 --output /srv/orders/order.json > /dev/null 2>&1; cat /srv/orders/order.json"
+echo '{"amount":500,"cut":[["PB000000012",1]],"returns":[["TV7",2]]}' > /srv/orders/wrong.json
+closing() { as society-office close /srv/orders/$1.json --office http://127.0.0.1:23080 --amount 500 --why 'asked by the board'; }
 has "nor paid" "TV7/2 is void, by /var/lib/society-decisions/void.txt" closing wrong
 has "a pool is closed, over the newest backup" "closed pool 1: 500 units of the PR, just as rehearsed" closing order
 has "who has closed it, and why" "anna	closed pool 1: 500 units of the PR	asked by the board" cat /var/lib/society-decisions/journal.txt
