@@ -11,6 +11,7 @@ import contextlib
 import grp
 import os
 import pathlib
+import random
 import shutil
 import signal
 import sqlite3
@@ -30,6 +31,8 @@ PATH = f"/v1/senders/{SENDER}/transmissions"
 RETURN = "/v1/returns/TV9/1", b"isrc,plays,seconds\n"
 # Most seconds until something that has to happen at once has happened.
 SOON = 3
+# So often a restore over a service that runs is killed.
+MOST_KILLS = 52
 WRONG, TRIALS = [], []
 
 # A service manager of one service: its command and its process stand in files beside it.
@@ -541,8 +544,8 @@ def one_at_a_time(office):
     check("each keeps what was there", len(list(office.home.glob("aside-*"))), 3)
 
 
-@trial
-def restores_that_end_early(office):
+def older_beside_newer(office):
+    """An office of 4 files that runs as a service, and a backup of 6 files and a return."""
     office.send(2)
     assert office.backed_up()[0] == 0
     older = office.newest()
@@ -557,6 +560,87 @@ def restores_that_end_early(office):
     office.sent = 2
     office.send(2)
     office.as_service()
+    return copy
+
+
+def begun_again(office, kept):
+    """The service over what was kept of its folder, without what a restore left beside it."""
+    subprocess.run([office.tools / "systemctl", "stop"], check=True)
+    for it in office.home.iterdir():
+        shutil.rmtree(it) if it.is_dir() else it.unlink()
+    shutil.copytree(kept, office.home, dirs_exist_ok=True)
+    subprocess.run([office.tools / "systemctl", "start"], check=True)
+    check("the office that is well", office.wait(), 4)
+
+
+def killed_after(office, copy, seconds):
+    """A restore that is killed after so many seconds; whether it was still under way."""
+    command = [RESTORE, "--db", office.database, "--port", str(office.port), "--program", office.program, "--from", copy]
+    words = ["--sender", SENDER, "--front", "6"]
+    running = subprocess.Popen([*command, *words], env=office.environment(), stdout=subprocess.DEVNULL, stderr=subprocess.DEVNULL)
+    time.sleep(seconds)
+    running.kill()
+    return running.wait() == -signal.SIGKILL
+
+
+@trial
+def killed_while_it_serves(office):
+    """A restore over a service that runs, killed before each program that it runs, and at random moments, 52 times in all: the office is
+    served again each time, over what was there or over the backup."""
+    copy, kept = older_beside_newer(office), office.folder / "kept"
+    subprocess.run([office.tools / "systemctl", "stop"], check=True)
+    shutil.copytree(office.home, kept)
+    subprocess.run([office.tools / "systemctl", "start"], check=True)
+    shutil.copy(office.tools / "systemctl", office.tools / "service")
+    names = {it: shutil.which(it) for it in ("cp", "mv", "rm", "sync", "chown", "chmod", "mktemp", "rmdir", "sqlite3", "stat")}
+    found, chance = [], random.Random(1)
+    try:
+        while True:
+            begun_again(office, kept)
+            for name, program in {**names, "systemctl": office.tools / "service"}.items():
+                office.tool(name, KILLING.format(name, program))
+            (office.tools / "count").write_text("0")
+            (office.tools / "last").write_text(str(len(found) + 1))
+            (office.tools / "killed").unlink(missing_ok=True)
+            begun = time.monotonic()
+            status, _, err = office.restored("--from", copy, "--sender", SENDER, "--front", "6")
+            seconds = time.monotonic() - begun
+            for name in names:
+                (office.tools / name).unlink()
+            shutil.copy(office.tools / "service", office.tools / "systemctl")
+            if not (office.tools / "killed").exists():
+                break
+            found.append(office.wait())
+        check(f"killed before {len(found)} programs: what is served", (set(found), status), ({4, 6}, 0))
+        check("first the old one, then the backup", found, sorted(found))
+        while len(found) < MOST_KILLS:
+            begun_again(office, kept)
+            if killed_after(office, copy, chance.uniform(0, seconds)):
+                found.append(office.wait())
+        check(f"killed {len(found)} times: what is served", set(found), {4, 6})
+    finally:
+        office.end_service()
+
+
+@trial
+def wrong_fronts(office):
+    """A front that the backup has not stops nothing, whatever it is."""
+    copy = older_beside_newer(office)
+    (office.tools / "asked").unlink(missing_ok=True)
+    try:
+        for front in ("0", "1", "4", "5", "7", "8", "60", "999999", "26-0001", "99-9999"):
+            failed(f"front {front}", office.restored("--from", copy, "--sender", SENDER, "--front", front), "is 6, not")
+            check("the office goes on", office.front(), 4)
+        asked = (office.tools / "asked").read_text() if (office.tools / "asked").exists() else ""
+        check("nothing was stopped", [it for it in asked.splitlines() if it.startswith(("stop", "start", "restart"))], [])
+        check("nothing beside", sorted(it.name for it in office.home.iterdir()), ["office.db", "office.db-wal"])
+    finally:
+        office.end_service()
+
+
+@trial
+def restores_that_end_early(office):
+    copy = older_beside_newer(office)
     try:
         # The file can't be put in place: what was there comes back.
         office.tool("mv", "#!/bin/sh\nexit 1\n")
