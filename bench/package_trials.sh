@@ -13,7 +13,7 @@ set -eu
 here=$(cd "$(dirname "$(readlink -f "$0")")/.." && pwd)
 # The packages from before are those of this commit, whose office is the user `office`'s.
 OLDER=068e29d2
-NEEDED=adduser,bash-completion,curl,openssl,python3,python3-click,python3-jinja2,python3-rich,sqlite3,nginx-light,logrotate,rsync,systemd,systemd-sysv
+NEEDED=adduser,curl,openssl,python3,python3-click,python3-jinja2,python3-rich,sqlite3,nginx-light,logrotate,rsync,systemd,systemd-sysv
 
 # What both machines use.
 both() {
