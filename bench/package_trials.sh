@@ -57,9 +57,9 @@ has "installed" "Setting up society-office" install_these /srv/society_*.deb /sr
 has "no service is enabled" "9 disabled" sh -c "systemctl is-enabled society society-proxy society-trial $timers | sort | uniq -c"
 for it in $units; do
   has "the unit $it" "status 0" sh -c "systemd-analyze verify --man=no $it.service; echo status \$?"
-  # (a backup has to be root's, halts another's process, and reads its files)
-  # (and what brings files to the standby has to be root's, who has the key to it)
-  case $it in society-backup | society-standby-files) most=1.8 ;; *) most=1.5 ;; esac
+  # (a backup has to be root's, halts another's process, reads its files, and asks it at its port; what brings files to the standby has to be
+  # root's too, who has the key to it, and goes to another machine)
+  case $it in society-backup) most=2.3 ;; society-standby-files) most=1.9 ;; *) most=1.5 ;; esac
   echo "exposure of $it: $(exposure $it)" >> /srv/seen
   has "exposure of $it" within at_most "$(exposure $it)" $most
 done
