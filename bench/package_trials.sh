@@ -103,7 +103,7 @@ has "behind the proxy" '{"front":1,"held":[]}' tls PB000000012 $s/v1/senders/PB0
 has "another's path" 403 tls PB000000012 -o /dev/null -w '%{http_code}' $s/v1/senders/PB000000034
 has "headers" "X-Frame-Options: DENY" tls office -D - -o /dev/null $s/desk/
 has "the page for staff" "<title>The office</title>" tls office $s/desk/
-has "its senders" "PB000000012" tls office $s/desk/senders.json
+has "its senders, none yet" "[]" tls office $s/desk/senders.json
 has "its faults" '"means"' tls office $s/desk/faults.json
 has "as many files as it says" "16384" sh -c 'cat /proc/$(systemctl show -p MainPID --value society-proxy)/limits | grep "open files"'
 has "logs are the proxy's alone" "society-proxy 600" stat -c '%U %a' /var/lib/society-proxy/access.log
