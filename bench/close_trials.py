@@ -1,11 +1,11 @@
 #!/usr/bin/env python3
 """Kills `society-office close` at random moments, before an office that hangs, breaks off, or answers 404, 409, 503, a page or garbage.
 
-In each round a return comes, a copy is made, and an order over it is closed: a first call is killed, half of them at any moment and half
-about the moment at which the order is put, while the office answers oddly; further ones may be killed too, or meet an odd answer; the last
-one meets none. Each call has to end with a plain line, and the last one with the pool closed. Then the office has this one pool more, which
-credits what was rehearsed, the journal has it begun and closed, once, and of the killed ones no throw-away office goes on. Ends with status
-1 where anything differs.
+In each round a return comes, or the office itself writes one, a copy is made, and an order over it is closed: a first call is killed, half
+of them at any moment and half about the moment at which the order is put, while the office answers oddly; further ones may be killed, or
+meet an odd answer; the last one meets none. Each call has to end with a plain line, and the last one with the pool closed. Then the office
+has this one pool more, which credits what was rehearsed, the journal has it begun and closed, once, and of the killed ones no throw-away
+office goes on. Ends with status 1 where anything differs.
 """
 import contextlib
 import http.server
@@ -32,6 +32,8 @@ WRONG = []
 MODES = [f"{mode}{after}" for mode in odd_office.MODES for after in ("", " after")] + ["forgets"]
 # So many calls that may be killed or oddly answered stand before the last one of a round.
 MOST_CALLS = 3
+# Each so manieth order is one of the office itself.
+OWN = 4
 # Seconds about the put of an order within which a call is killed.
 ABOUT = 0.05
 
@@ -89,7 +91,8 @@ class Trial:
         self.server = Server(program, self.database)
         self.way, self.port = self.begin_way()
         self.put(f"/v1/senders/{SENDER}/transmissions/1", works_file(1, 3))
-        self.outcomes = {}
+        # Pools that pay plays, and those of the office itself; and how calls have ended.
+        self.closed, self.outcomes = [0, 0], {}
 
     def begin_way(self):
         """Starts the process of the way; its id and its port."""
@@ -114,6 +117,9 @@ class Trial:
     def get(self, path):
         with contextlib.closing(self.server.connection()) as it:
             return common.ask(it, "GET", path)
+
+    def write_order(self, number, paid):
+        self.order.write_bytes(order_body(1_000 + number, [[SENDER, 1]], [paid]))
 
     def begin(self, mode, about):
         """Starts a call, in a process group of its own; its id. One that is to be killed about the put waits until the way knows it."""
@@ -214,23 +220,40 @@ def plain(what, status, said):
     check(f"{what}: {last}", status in (0, 1) and "Traceback" not in said and is_plain)
 
 
+def play_order(trial, number):
+    """A return of a station that came; the number of the pool that pays it."""
+    trial.put(f"/v1/returns/RADIO1/{number}", plays(number, 3, 1))
+    trial.write_order(number, ["RADIO1", number])
+    return trial.closed[0] + 1
+
+
+def own_order(trial, number):
+    """An order of the office itself, whose return stands beside it and is sent with it; its number goes down."""
+    pool = 99_999 - trial.closed[1]
+    (trial.folder / f"AMEND1-{pool}.csv").write_bytes(plays(number, 3, 1))
+    trial.write_order(number, ["AMEND1", pool])
+    return pool
+
+
 def round_of(trial, number):
     """One order, closed at last; whether a call was killed."""
-    trial.put(f"/v1/returns/RADIO1/{number}", plays(number, 3, 1))
+    is_own = number % OWN == 0
+    pool = (own_order if is_own else play_order)(trial, number)
     book_log.join(trial.database, book_files.log_of(trial.database), trial.copy)
-    trial.order.write_bytes(order_body(1_000 + number, [[SENDER, 1]], [["RADIO1", number]]))
     is_killed = tried(trial, number)
     status, said = trial.call()
-    check(f"round {number}: the last call", (status, f"pool {number}" in said), (0, True))
+    check(f"round {number}: the last call", (status, f"pool {pool}" in said), (0, True))
     if status:
         print(said)
-    status, text = trial.get(f"/v1/pools/{number}")
+    trial.closed[is_own] += 1
+    status, text = trial.get(f"/v1/pools/{pool}")
     units = sum(int(it.rsplit(b",", 1)[1]) for it in text.splitlines()[1:]) if status == 200 else None
     check(f"round {number}: what was credited", units, 1_000 + number)
-    check(f"round {number}: no second pool", [trial.get(f"/v1/pools/{number + it}")[0] for it in (1, 2)], [404, 404])
+    others = [trial.get(f"/v1/pools/{it}")[0] for it in (trial.closed[0] + 1, 99_999 - trial.closed[1])]
+    check(f"round {number}: no second pool", others, [404, 404])
     journal = decisions.read(trial.decided).journal
-    check(f"round {number}: the journal", [it.what for it in journal].count(f"closed pool {number}: {1_000 + number:,} units of the PR"), 1)
-    check(f"round {number}: it is ended", (unfinished(journal), state_of(journal)[number][0]), ({}, "closed"))
+    check(f"round {number}: the journal", [it.what for it in journal].count(f"closed pool {pool}: {1_000 + number:,} units of the PR"), 1)
+    check(f"round {number}: it is ended", (unfinished(journal), state_of(journal)[pool][0]), ({}, "closed"))
     return is_killed
 
 

@@ -179,7 +179,7 @@ has "what it lacks, by its unit" "Result=success" ended society-standby
 has "it has all" '{"front":1,"held":[]}' second
 has "the proxy may know it" "127.0.0.1:8082" ls /run/society-standby/http:
 has "that is told" "has all that came until" journalctl -q -u society-standby
-has "the mirror is on by a line" 201 bash -c "sed -i '0,/        default \"\";/s//        default http:\/\/127.0.0.1:8082;/' $proxy/nginx.conf; systemctl reload society-proxy; sleep 2
+has "the mirror is on by a line" 201 bash -c "sed -i '/server_port .standby/,/}/s/default \"\"/default http:\/\/127.0.0.1:8082/' $proxy/nginx.conf; systemctl reload society-proxy; sleep 2
   $(declare -f tls put_by_proxy); proxy=$proxy; s=$s; put_by_proxy 2"
 has "a put is mirrored" '{"front":2,"held":[]}' seconds 2 second
 systemctl stop second
