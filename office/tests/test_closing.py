@@ -37,9 +37,9 @@ def order(copy: pathlib.Path, tmp_path: pathlib.Path) -> pathlib.Path:
     return tmp_path / "order.json"
 
 
-def words(copy: pathlib.Path, address: str, order: pathlib.Path, program: str, *more: object) -> list[str]:
+def words(copy: pathlib.Path, address: str, order: pathlib.Path, program: str, *more: object, wait: int = 1) -> list[str]:
     """The words that close a pool."""
-    given = ["close", order, "--copy", copy, "--office", address, "--program", program, "--wait", 1, *more]
+    given = ["close", order, "--copy", copy, "--office", address, "--program", program, "--wait", wait, *more]
     return [str(it) for it in given]
 
 
@@ -188,7 +188,8 @@ def test_an_office_that_gives_no_answer(
 
 def test_an_office_that_has_no_room_for_a_while(copy: pathlib.Path, address: str, order: pathlib.Path, program: str) -> None:
     with odd(address, "503", left=2) as other:
-        assert "closed pool 6" in called(sure(copy, other, order, program))
+        given = words(copy, other, order, program, "--amount", AMOUNT, "--why", "asked by the board", wait=60)
+        assert "closed pool 6" in called(given)
 
 
 def test_an_order_that_is_refused_is_given_up(
