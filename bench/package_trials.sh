@@ -197,7 +197,7 @@ has "back again" "Result=success" ended society-standby
 has "it has all" '{"front":3,"held":[]}' second
 has "of its copies the newest stays" 1 sh -c 'ls /var/lib/society-standby/*.db | wc -l'
 mkdir /srv/standby /etc/systemd/system/society-standby-files.service.d
-printf '[Service]\nReadWritePaths=/srv/standby\nCapabilityBoundingSet=CAP_CHOWN CAP_FOWNER CAP_DAC_OVERRIDE\n' > /etc/systemd/system/society-standby-files.service.d/here.conf
+printf '[Service]\nReadWritePaths=/srv/standby\nCapabilityBoundingSet=CAP_CHOWN CAP_FOWNER CAP_DAC_OVERRIDE\nRestrictSUIDSGID=no\n' > /etc/systemd/system/society-standby-files.service.d/here.conf
 systemctl daemon-reload
 has "without a place nothing is brought" "Result=exit-code" ended society-standby-files
 echo 'STANDBY_FILES=/srv/standby/' > /etc/default/society-office

@@ -25,7 +25,8 @@ def bring(target: str, folder: pathlib.Path, more: Sequence[str]) -> str:
         known = decisions.read_locked(folder)
         with tempfile.TemporaryDirectory(prefix="society-office-") as there:
             place = folder.absolute().relative_to("/")
-            run(["--archive", "--relative", "--ignore-missing-args", f"{target.rstrip('/')}/./{place}", there])
+            # (whose it is there does not matter here, and a unit may not make a folder that gives its group on)
+            run(["--recursive", "--relative", "--ignore-missing-args", f"{target.rstrip('/')}/./{place}", there])
             refuse_own(target, pathlib.Path(there) / place, known)
         run(["--archive", "--relative", "--delete", "--delay-updates", str(folder.absolute()), *more, target])
     return f"{target} has the {known.words}"
