@@ -284,10 +284,15 @@ systemctl reset-failed society
 has "and then it starts" '{"front":0,"held":[]}' sh -c "systemctl start society; $(declare -f ask front); o=$o; front"
 has "a downgrade" "Setting up society-office" install_these --allow-downgrades /srv/older/society_*.deb /srv/older/society-office_*.deb
 has "the older program" '{"front":0,"held":[]}' sh -c "systemctl restart society; $(declare -f ask front); o=$o; front"
-echo '# ours' >> $proxy/nginx.conf
+echo '# ours' | tee -a $proxy/nginx.conf >> /etc/default/society-office
 install_these -o Dpkg::Options::=--force-confold /srv/society_*.deb /srv/society-office_*.deb > /srv/upgraded 2>&1
 has "and the newer one again" "the office runs the program of before" cat /srv/upgraded
-has "a changed configuration stays, and that is told" "$proxy/nginx.conf stays as you changed it" cat /srv/upgraded
+has "changed options stay, and that is told" "/etc/default/society-office stays as you changed it" cat /srv/upgraded
+# (the older ones have no proxy, so a configuration of it that is another one comes with packages that are newer still)
+dpkg-deb -R /srv/society_*.deb /srv/next && echo '# theirs' >> /srv/next$proxy/nginx.conf && sed -i 's/^Version: .*/&+next/' /srv/next/DEBIAN/control
+dpkg-deb -b /srv/next /srv/next.deb > /dev/null
+has "a changed configuration stays, and that is told" "$proxy/nginx.conf stays as you changed it" dpkg --force-confold --force-depends -i /srv/next.deb
+has "it is as it was" "# ours" tail -n 1 $proxy/nginx.conf
 has "over the same book" '{"front":0,"held":[]}' sh -c "systemctl restart society; $(declare -f ask front); o=$o; front"
 forget office
 useradd --system --gid nogroup _society
