@@ -573,6 +573,19 @@ def begun_again(office, kept):
     check("the office that is well", office.wait(), 4)
 
 
+def served_after(office):
+    """The front that the office has once whoever waited for the end of a restore has done what it does."""
+    wait_for(lambda: not [it for it in pathlib.Path("/proc").glob("[0-9]*") if is_guard(it, office)])
+    return office.wait()
+
+
+def is_guard(process, office):
+    """Whether a process waits for the end of a restore of this office."""
+    with contextlib.suppress(OSError):
+        return (process / "cmdline").read_bytes() == b"bash\0-c\0guard\0" and str(office.tools).encode() in (process / "environ").read_bytes()
+    return False
+
+
 def killed_after(office, copy, seconds):
     """A restore that is killed after so many seconds; whether it was still under way."""
     command = [RESTORE, "--db", office.database, "--port", str(office.port), "--program", office.program, "--from", copy]
@@ -610,13 +623,13 @@ def killed_while_it_serves(office):
             shutil.copy(office.tools / "service", office.tools / "systemctl")
             if not (office.tools / "killed").exists():
                 break
-            found.append(office.wait())
+            found.append(served_after(office))
         check(f"killed before {len(found)} programs: what is served", (set(found), status), ({4, 6}, 0))
         check("first the old one, then the backup", found, sorted(found))
         while len(found) < MOST_KILLS:
             begun_again(office, kept)
             if killed_after(office, copy, chance.uniform(0, seconds)):
-                found.append(office.wait())
+                found.append(served_after(office))
         check(f"killed {len(found)} times: what is served", set(found), {4, 6})
     finally:
         office.end_service()
