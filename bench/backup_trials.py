@@ -580,9 +580,10 @@ def served_after(office):
 
 
 def is_guard(process, office):
-    """Whether a process waits for the end of a restore of this office."""
+    """Whether a process is of a restore of this office, as the one that waits for its end; none but the office itself is else."""
     with contextlib.suppress(OSError):
-        return (process / "cmdline").read_bytes() == b"bash\0-c\0guard\0" and str(office.tools).encode() in (process / "environ").read_bytes()
+        is_of_it = f"PATH={office.tools}:".encode() in (process / "environ").read_bytes()
+        return is_of_it and not (process / "cmdline").read_bytes().startswith(b"society\0")
     return False
 
 

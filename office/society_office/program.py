@@ -229,8 +229,9 @@ def trial_office(program: str, words: list[str], database: pathlib.Path | None =
             process = None
             try:
                 with signals.put_off():
-                    command = [*signals.ends_with_parent(), program, "serve", *options, *words]
-                    process = subprocess.Popen(command, stdout=subprocess.PIPE, stderr=errors)
+                    process = subprocess.Popen(
+                        [program, "serve", *options, *words], stdout=subprocess.PIPE, stderr=errors, preexec_fn=signals.ends_with_parent()
+                    )
                 if process.stdout is None or process.stdout.readline() != b"listening\n":
                     process.wait()
                     errors.seek(0)

@@ -1,13 +1,15 @@
 """Signals that ask for the end: a command first puts away what it began, so that no throw-away office and no copy of a book is left."""
 
 import contextlib
-import shutil
+import os
 import signal
-from collections.abc import Iterator
+from collections.abc import Callable, Iterator
 from typing import NoReturn
 
 # What `kill` and `systemctl stop` send, and what a terminal sends that is closed; Python itself heeds Ctrl-C.
 ENDING = (signal.SIGTERM, signal.SIGHUP)
+# What Linux calls the signal that a process gets when the one that started it ends.
+PARENT_DEATH_SIGNAL = 1
 
 
 class Ended(SystemExit):
@@ -52,7 +54,21 @@ def put_off() -> Iterator[None]:
         signal.raise_signal(number)
 
 
-def ends_with_parent() -> list[str]:
-    """Words before a command by which it is killed when this process ends, however that is; none where the machine has no such program."""
-    found = shutil.which("setpriv")
-    return [found, "--pdeathsig", "KILL"] if found else []
+def ends_with_parent() -> Callable[[], None] | None:
+    """What a process that is started does first, so that it is killed when this one ends, however that is; None where it can't."""
+    try:
+        # (a process that few commands start, and a module that some units might not let in)
+        import ctypes
+
+        library = ctypes.CDLL(None)
+    except (ImportError, MemoryError, OSError):
+        return None
+    parent = os.getpid()
+
+    def ask() -> None:
+        library.prctl(PARENT_DEATH_SIGNAL, signal.SIGKILL)
+        # (it may have ended meanwhile)
+        if os.getppid() != parent:
+            os.kill(os.getpid(), signal.SIGKILL)
+
+    return ask
