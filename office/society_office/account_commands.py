@@ -7,25 +7,18 @@ import click
 
 from society_office import balances, explain_output
 from society_office.command_words import COPY_HELP, PATH, POOL, Command, names_known, noted, with_decisions
+from society_office.credit import asking
 from society_office.errors import OfficeError
 from society_office.explaining import Explainer
 from society_office.fields import RECORDING
 from society_office.lines import NO_RECORDING
 from society_office.numbering import as_sent, rank_of
-from society_office.pages import write_bytes, write_text
-from society_office.program import open_whole
+from society_office.pages import write_bytes, write_out
+from society_office.program import find_program, open_whole
 from society_office.return_names import one_return
 from society_office.soundness import need_sound
 from society_office.statements import SENDER
 from society_office.terminal import console
-
-
-def write_out(text: str, output: pathlib.Path | None) -> None:
-    """Writes a text to a file, or to standard output."""
-    if output:
-        write_text(output, text)
-    else:
-        sys.stdout.write(text)
 
 
 def write_stored(body: bytes, output: pathlib.Path | None) -> None:
@@ -57,14 +50,14 @@ def explain(
     """How each credit of an account in a pool came about.
 
     The plays of its recording by station and return, the recording's part of the pool, whose work it is, the account's share, and who
-    got the last units. It is reckoned again from returns, works and the order; where the credits are others, that is said, with status 1.
+    got the last units. The program itself says it, by the order alone; where the credits are others, that is said, with status 1.
     """
     wanted = isrc.upper().replace("-", "") if isrc and isrc != NO_RECORDING else isrc
     if wanted not in (None, NO_RECORDING) and not RECORDING.fullmatch(str(wanted).encode(errors="replace")):
         raise OfficeError(f"{isrc!r} is no ISRC: write ATABC2600001")
     with open_whole(copy) as opened:
         names = names_known(noted(opened), folder)
-        found = Explainer(opened, pool).of(account, wanted)
+        found = Explainer(opened, pool, asking(find_program(), opened)).of(account, wanted)
     if form == "table" and output is None:
         explain_output.show(found, names, console())
         return

@@ -49,7 +49,7 @@ def orders_as_due(book: Book, amendments: Sequence[Amendment], void: Sequence[En
         if book.amending.get(it.number) == it.pool and it.pool in found:
             found[it.pool] = order_of(it)
             wrong += unpaid(book, it)
-    wrong += [] if was_corrected else not_amended(book, {it.pool for it in amendments})
+    wrong += [] if was_corrected else [it for _, it in not_amended(book, amendments)]
     wrong += twice(found)
     if wrong:
         raise OfficeError("; ".join(wrong))
@@ -86,11 +86,12 @@ def unpaid(book: Book, it: Amendment) -> Iterator[str]:
         yield f"{it.where}: `{it.number} {it.pool}` adds {names_text(left)}, which pool {it.number} does not name"
 
 
-def not_amended(book: Book, amended: set[int]) -> Iterator[str]:
-    """The pools that an older book has corrected and that have no amendment."""
+def not_amended(book: Book, amendments: Sequence[Amendment]) -> Iterator[tuple[int, str]]:
+    """The pools that an older book has corrected and that have no amendment, each with what is to be done."""
     corrected = {pool for reporter, _ in book.stored if (pool := corrected_by(reporter)) is not None and book.is_play(pool)}
-    for pool in sorted(corrected - amended):
-        yield f"pool {pool} was corrected by CORRECTED{pool}: say once by which order it is due: `amend COPY {pool} --was-corrected ..`"
+    for pool in sorted(corrected - {it.pool for it in amendments}):
+        cure = f"say once by which order it is due: `amend COPY {pool} --was-corrected ..`"
+        yield pool, f"pool {pool} was corrected by CORRECTED{pool}: {cure}"
 
 
 def twice(orders: Mapping[int, Order]) -> Iterator[str]:

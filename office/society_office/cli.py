@@ -19,7 +19,7 @@ from society_office.command_words import noted, with_decisions
 from society_office.copy import beside
 from society_office.errors import OfficeError
 from society_office.orders import LAST_POOL
-from society_office.pages import write_text
+from society_office.pages import write_out
 from society_office.site import write_site
 from society_office.program import Office, ReplayOffice, find_program, open_whole, trial_of
 from society_office.soundness import need_sound
@@ -147,11 +147,7 @@ def list_parties(copy: pathlib.Path, form: str, output: pathlib.Path | None) -> 
     """
     with open_whole(copy) as opened:
         found = parties.parties(noted(opened))
-    text = parties.as_json(found) + "\n" if form == "json" else parties.as_csv(found)
-    if output:
-        write_text(output, text)
-    else:
-        sys.stdout.write(text)
+    write_out(parties.as_json(found) + "\n" if form == "json" else parties.as_csv(found), output)
 
 
 @contextlib.contextmanager

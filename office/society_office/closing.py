@@ -20,7 +20,7 @@ from society_office.copy import Copy
 from society_office.decisions import Decisions
 from society_office.errors import OfficeError
 from society_office.journal import MOMENT, Decided, sum_of, who
-from society_office.orders import free_pool
+from society_office.orders import pool_for
 from society_office.own_returns import is_numbered_down
 from society_office.program import Answer
 from society_office.return_names import are_listed, names_text
@@ -85,12 +85,6 @@ def unfinished(journal: Sequence[Decided]) -> dict[int, Decided]:
     return {pool: one for pool, (word, one) in state_of(journal).items() if word == "closing"}
 
 
-def own_number(order: dict[str, Any]) -> int | None:
-    """The number that an order of the office itself has: that of its own return."""
-    found = {int(number) for reporter, number in order["returns"] if is_numbered_down(reporter)}
-    return found.pop() if len(found) == 1 else None
-
-
 def plan(known: Decisions, copy: Copy, body: bytes) -> Plan:
     """Which pool an order closes: the one that an earlier call began for it, else its own number, else the next free one.
 
@@ -105,7 +99,7 @@ def plan(known: Decisions, copy: Copy, body: bytes) -> Plan:
             f"pool {pool} was begun by {one.who} at {one.when.strftime(MOMENT)} by another order, and is not ended: "
             f"`society-office close {known.folder / kept(pool)}` ends it, or with --give-up takes it back"
         )
-    return Plan(body, order, own_number(order) or free_pool(copy))
+    return Plan(body, order, pool_for(copy, body))
 
 
 def refuse_void(it: Plan, known: Decisions) -> None:

@@ -1,6 +1,5 @@
 """A copy of the office's file, opened to be read and never written to, whatever its layout and whatever stands beside it."""
 
-import concurrent.futures
 import contextlib
 import fcntl
 import os
@@ -62,19 +61,6 @@ class Copy:
             return self.database.execute(question, values).fetchall()
         except sqlite3.DatabaseError as error:
             raise self.damaged(error) from error
-
-    def asked_beside(self, threads: concurrent.futures.Executor, question: str, *values: Any) -> concurrent.futures.Future[list[Any]]:
-        """The rows that answer a question over a connection of its own, while this one goes on."""
-        file = self.file
-
-        def ask() -> list[Any]:
-            with contextlib.closing(sqlite3.connect(f"{file.as_uri()}?mode=ro", uri=True)) as database:
-                try:
-                    return database.execute(question, values).fetchall()
-                except sqlite3.DatabaseError as error:
-                    raise self.damaged(error) from error
-
-        return threads.submit(ask)
 
     def damaged(self, error: sqlite3.DatabaseError) -> OfficeError:
         """What is said where a question can't be answered."""

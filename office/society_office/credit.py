@@ -3,7 +3,6 @@
 import collections
 import csv
 import io
-import itertools
 import json
 import pathlib
 import subprocess
@@ -12,7 +11,7 @@ from collections.abc import Callable, Iterable, Iterator, Sequence
 from typing import NamedTuple, TextIO
 
 from society_office import faults
-from society_office.copy import Copy
+from society_office.copy import Copy, open_copy
 from society_office.errors import OfficeError
 from society_office.orders import Order
 from society_office.program import trial_of
@@ -57,6 +56,8 @@ class Asked(NamedTuple):
 
 # How an office answers to an order by which a pool is closed now.
 NEW = 201
+# The layout of files over which the program answers.
+LAYOUT = 3
 # Recordings that one line names: it has a million bytes at most, and an order takes some forty thousand.
 MOST_NAMED = 50_000
 # Answers orders one after another, each by its rows.
@@ -72,23 +73,34 @@ def asking(program: str, copy: Copy) -> Ask:
         lines = "".join(f"{it.json}\n" for _, it in parts).encode()
         with tempfile.TemporaryDirectory(prefix="society-office-") as folder:
             database, out = pathlib.Path(folder) / "copy.db", pathlib.Path(folder) / "credits.csv"
-            copy.save(database)
+            save_current(program, copy, database)
             with out.open("wb") as into:
                 words = [program, "credit", "--db", str(database), *copy.office_words]
                 done = subprocess.run(words, input=lines, stdout=into, stderr=subprocess.PIPE, check=False)
             if done.returncode:
                 raise OfficeError(f"`society credit` over {copy.path}: {done.stderr.decode(errors='replace').strip()}")
             with out.open(encoding="latin-1", newline="") as text:
-                by_order = itertools.groupby(rows_in(text), key=lambda it: parts[it[0]][0])
-                place, rows = next(by_order, (len(asked), iter(())))
-                for wanted in range(len(asked)):
-                    if wanted < place:
-                        yield []
-                        continue
-                    yield [row for _, row in rows]
-                    place, rows = next(by_order, (len(asked), iter(())))
+                rows = rows_in(text)
+                first = next(rows, None)
+                for place in range(len(asked)):
+                    found = []
+                    while first is not None and parts[first[0]][0] == place:
+                        found.append(first[1])
+                        first = next(rows, None)
+                    yield found
 
     return ask
+
+
+def save_current(program: str, copy: Copy, target: pathlib.Path) -> None:
+    """Writes what a copy holds into a file of its own, of the layout over which the program answers."""
+    if copy.layout == LAYOUT:
+        copy.save(target)
+        return
+    with trial_of(program, copy) as trial:
+        trial.end()
+        with open_copy(trial.database) as raised:
+            raised.save(target)
 
 
 def rows_in(text: TextIO) -> Iterator[tuple[int, Row]]:

@@ -24,7 +24,6 @@ from society_office.plays import MOST_ROWS, points
 from society_office.pool_kinds import Book, Cut
 from society_office.records import UNCLAIMED
 from society_office.return_names import Return
-from society_office.splitting import split
 
 # A right, a recording, an account.
 Key = tuple[str, str, str]
@@ -252,10 +251,12 @@ def cut_over(newest: Cut, senders: set[str]) -> Cut:
 
 
 def shared(units: int, weights: Weights) -> collections.Counter[str]:
-    """What accounts get of a recording's units."""
-    found: collections.Counter[str] = collections.Counter()
-    for (account, _), part in zip(weights, split(units, [weight for _, weight in weights])):
-        found[account] += part.units
+    """What accounts would get of a recording's units: whole parts, and the units that are left one by one by the greatest remainders."""
+    whole, found = sum(weight for _, weight in weights), collections.Counter[str]()
+    ordered = sorted(weights, key=lambda it: -(units * it[1] % whole))
+    left = units - sum(units * weight // whole for _, weight in weights)
+    for place, (account, weight) in enumerate(ordered):
+        found[account] += units * weight // whole + (place < left)
     return found
 
 

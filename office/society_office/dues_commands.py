@@ -9,7 +9,7 @@ from typing import Any
 import click
 
 from society_office import decisions, dues_output, parties
-from society_office.amendments import Changes, amended, order_of, order_over, orders_as_due, remarks_on, without_void
+from society_office.amendments import Changes, amended, not_amended, order_of, order_over, orders_as_due, remarks_on, without_void
 from society_office.command_words import COPY_HELP, PATH, POOL, PROGRAM_HELP, Amount, Command, decided, noted, with_decisions
 from society_office.copy import Copy
 from society_office.credit import asking, closed
@@ -17,7 +17,7 @@ from society_office.decisions import Decisions
 from society_office.dues import Dues, need_within
 from society_office.errors import OfficeError
 from society_office.orders import Order
-from society_office.own_returns import ROWLESS, amends, corrects
+from society_office.own_returns import ROWLESS, amends
 from society_office.pool_kinds import Book
 from society_office.pool_names import pool_text
 from society_office.program import find_program, open_whole
@@ -145,8 +145,8 @@ def amend(
 
 @dataclasses.dataclass(frozen=True)
 class Made:
-    """An amendment: its number, its pool, the order as it should have been, the orders by which pools are due without it, and the order
-    that puts it in force, over its return."""
+    """An amendment: its number, its pool, the order as it should have been, the orders by which pools are due without it, the order that
+    puts it in force over its return, and what it changes."""
 
     number: int
     pool: int
@@ -154,7 +154,6 @@ class Made:
     orders: Mapping[int, Order]
     over: Order
     remarks: Sequence[str]
-    is_listed: bool
 
     @property
     def returned(self) -> Return:
@@ -166,8 +165,8 @@ def amendment(copy: Copy, book: Book, known: Decisions, pool: int, changes: Chan
     """The amendment of a pool; an OfficeError where it can't be amended so."""
     if not book.is_play(pool):
         raise OfficeError(f"pool {pool} is none that people have closed over plays")
-    if not changes.was_corrected and pool not in {it.pool for it in known.amendments} and corrects(pool) in {it[0] for it in book.stored}:
-        raise OfficeError(f"pool {pool} was corrected by {corrects(pool)}: say by which order it is due, with --was-corrected")
+    if not changes.was_corrected and (wrong := [it for of, it in not_amended(book, known.amendments) if of == pool]):
+        raise OfficeError(wrong[0])
     number = book.next_number()
     before = [it for it in known.amendments if it.number != number]
     orders = orders_as_due(book, before, [], changes.was_corrected)
@@ -176,13 +175,12 @@ def amendment(copy: Copy, book: Book, known: Decisions, pool: int, changes: Chan
     if any((it.pool, order_of(it)) != (pool, should) for it in pending):
         raise OfficeError(f"{pending[0].where}: it is another amendment that is not in force yet: close its pool, or take it out")
     due = {it: without_void(order, known.void) for it, order in orders.items()}
-    remarks = list(remarks_on(orders[pool], should))
-    return Made(number, pool, should, due, order_over(book, number, pool, should), remarks, bool(pending))
+    return Made(number, pool, should, due, order_over(book, number, pool, should), list(remarks_on(orders[pool], should)))
 
 
 def add_amendment(known: Decisions, made: Made, why: str) -> None:
     """Adds an amendment to the list, where it is not there yet."""
-    if not made.is_listed:
+    if made.number not in {it.number for it in known.amendments}:
         line = f"{made.number} {made.pool} {made.should.json}"
         decisions.add(known.folder, decisions.AMENDMENTS, [line], f"amend {made.pool}", why)
 

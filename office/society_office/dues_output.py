@@ -6,7 +6,6 @@ import io
 import json
 import pathlib
 from collections.abc import Iterator, Mapping, Sequence
-from typing import Any
 
 from rich.console import Console
 
@@ -121,9 +120,3 @@ def sending(text: pathlib.Path, returned: str, order: pathlib.Path, pool: str) -
     """The commands that send a return, and where that was taken the order over it."""
     yield f"curl --noproxy '*' -fT {text} {ADDRESS}/v1/{returned} &&"
     yield f"curl --noproxy '*' -fT {order} {ADDRESS}/v1/{pool}"
-
-
-def change_data(lines: Sequence[Line], order: Order, remarks: Sequence[str]) -> str:
-    """An amendment as JSON."""
-    found: dict[str, Any] = {"order": json.loads(order.json), "remarks": list(remarks), "accounts": json.loads(as_json(lines, COLUMNS))}
-    return json.dumps(found, ensure_ascii=False, indent=1)

@@ -9,12 +9,10 @@ from typing import Any
 
 from rich.console import Console
 
-from society_office.explaining import Explained, Explanation
+from society_office.explaining import Explained, Explanation, Part
 from society_office.numbering import counted
 from society_office.plain_text import plain
 from society_office.pool_names import POOL_COLUMNS, PoolNames, named, pool_text
-from society_office.shares import percent_text
-from society_office.splitting import Part
 from society_office.terminal import console, table
 
 COLUMNS = ["pool", "right", "isrc", "title", "work", "publisher", "file", "reporter", "return", "plays", "seconds", "points"]
@@ -28,6 +26,11 @@ def reckoned(it: Part) -> str:
         return words
     who = "the last unit goes to number 1" if it.left == 1 else f"the last {it.left:,} units go to the numbers 1 to {it.left:,}"
     return f"{words}, remainder {it.remainder:,} (number {it.place:,}; {who}): {it.units:,}"
+
+
+def percent_text(hundredths: int) -> str:
+    """Hundredths of a percent as people write them: 50 %, 33.34 %."""
+    return f"{hundredths / 100:.2f}".rstrip("0").rstrip(".") + " %"
 
 
 def owner_text(it: Explained) -> str:
@@ -91,7 +94,7 @@ def as_csv(found: Explanation, names: PoolNames) -> str:
 
 def part_data(it: Part) -> dict[str, int]:
     """A part as JSON has it."""
-    return {**dataclasses.asdict(it), "whole": it.whole, "remainder": it.remainder, "last": it.last, "units": it.units}
+    return {**dataclasses.asdict(it), "whole": it.whole, "remainder": it.remainder, "last": it.last}
 
 
 def as_json(found: Explanation, names: PoolNames) -> str:

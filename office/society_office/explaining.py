@@ -2,19 +2,57 @@
 
 import collections
 import dataclasses
-from collections.abc import Iterable, Iterator, Sequence
+import itertools
+from collections.abc import Iterator, Sequence
 
-from society_office.claims import Claim, Claims
+from society_office.closing import credits_of
 from society_office.copy import Copy
+from society_office.credit import Ask, Asked, Row
 from society_office.errors import OfficeError
 from society_office.lines import NO_RECORDING
 from society_office.numbering import as_sent, counted, ranges
+from society_office.owners import Claim, Owners
 from society_office.plays import rows
+from society_office.pool_kinds import Book
 from society_office.records import UNCLAIMED, Works, sender_names
-from society_office.shares import Holder, holders, rest
 from society_office.soundness import CURE
-from society_office.splitting import Part, split
 from society_office.statements import is_sender
+
+
+@dataclasses.dataclass(frozen=True)
+class Part:
+    """What one of several gets of an amount: by its weight among all, with its place among the remainders, the units left, and its own."""
+
+    amount: int
+    weight: int
+    all_weights: int
+    place: int
+    left: int
+    units: int
+
+    @property
+    def whole(self) -> int:
+        """Its whole units."""
+        return self.amount * self.weight // self.all_weights
+
+    @property
+    def remainder(self) -> int:
+        """What the division leaves."""
+        return self.amount * self.weight % self.all_weights
+
+    @property
+    def last(self) -> int:
+        """The unit that it gets of those that are left, 0 or 1."""
+        return self.units - self.whole
+
+
+def parts(listed: Sequence[tuple[int, int]]) -> list[Part]:
+    """What several get of an amount, by the weight and the units of each."""
+    amount, total = sum(units for _, units in listed), sum(weight for weight, _ in listed)
+    ordered = sorted(range(len(listed)), key=lambda k: (-(amount * listed[k][0] % total), k))
+    places = {k: place for place, k in enumerate(ordered, 1)}
+    left = amount - sum(amount * weight // total for weight, _ in listed)
+    return [Part(amount, weight, total, places[k], left, units) for k, (weight, units) in enumerate(listed)]
 
 
 @dataclasses.dataclass(frozen=True)
@@ -76,83 +114,57 @@ class Explanation:
 
 
 class Explainer:
-    """Reckons what a pool of a copy had to credit, by its returns, its cut and its right."""
+    """Tells how the credits of a pool of a copy came about, by what the program says of its order."""
 
-    def __init__(self, copy: Copy, pool: int) -> None:
-        """Reads the plays of the pool; an OfficeError where it is not closed."""
-        copy.need_derived()
-        amounts = copy.pools()
-        if pool not in amounts:
-            raise OfficeError(f"pool {pool} is not closed; closed are {ranges(amounts, 20) or 'none'}")
-        self.copy, self.pool, self.amount = copy, pool, amounts[pool]
-        self.right, self.cut = copy.rights()[pool], copy.cuts()[pool]
-        self.works, self.names = Works(copy), sender_names(copy)
-        self.played = played_of(copy, pool)
-        points = {isrc: sum(it.points for it in listed) for isrc, listed in sorted(self.played.items())}
-        self.points = sum(points.values())
-        self.parts = dict(zip(points, split(self.amount, list(points.values())))) if points else {NO_RECORDING: whole_of(self.amount)}
-        self.claims = Claims(copy, points)
+    def __init__(self, copy: Copy, pool: int, ask: Ask) -> None:
+        """Reads the order and the plays of the pool; an OfficeError where it is not closed."""
+        orders = Book(copy).orders
+        if pool not in orders:
+            raise OfficeError(f"pool {pool} is not closed; closed are {ranges(orders, 20) or 'none'}")
+        self.copy, self.pool, self.order, self.ask = copy, pool, orders[pool], ask
+        self.works, self.names, self.played = Works(copy), sender_names(copy), played_of(copy, pool)
+        self.owners = Owners(copy, "SELECT isrc FROM credits WHERE pool = ?", pool)
 
     def of(self, account: str, isrc: str | None = None) -> Explanation:
         """What the pool credits to an account; an OfficeError where it credits nothing, or where the copy has other credits than these."""
         if is_sender(self.copy, account):
             raise OfficeError(f"{account} is a sender of files: name an account, as `society-office statement COPY {account}` lists them")
-        credited = self.credited(account, isrc)
-        if not credited:
+        credited = credits_of(self.copy, self.pool)
+        own = dict.fromkeys(it for it, to, _ in credited if to == account and isrc in (None, it))
+        if not own:
             raise OfficeError(f"pool {self.pool} credits nothing to {account}" + (f" for {isrc}" if isrc else ""))
-        self.load(credited)
-        found = [line for it in credited for line, to in self.lines(it, credited[it]) if to == account]
+        [listed] = self.ask([Asked(self.order)])
+        if credited != [(it.isrc, it.account, it.part) for it in listed]:
+            raise OfficeError(f"{self.copy.path} is not sound: pool {self.pool} credits otherwise than its order says; {CURE}")
+        said = {it: list(rows) for it, rows in itertools.groupby(listed, key=lambda it: it.isrc)}
+        recordings = dict(zip(said, parts([(it[0].points or 1, it[0].units) for it in said.values()])))
+        self.works.load(self.place(said[it][0]) for it in own if said[it][0].sender)
+        found = [line for it in own for line, to in self.lines(said[it], recordings[it]) if to == account]
         named = (it.party for it in found if it.party and account != UNCLAIMED)
-        return Explanation(account, next(named, ""), self.pool, self.right, self.amount, self.points, found)
+        points = sum(it[0].points for it in said.values())
+        return Explanation(account, next(named, ""), self.pool, self.order.kind, self.order.amount, points, found)
 
-    def credited(self, account: str, isrc: str | None) -> dict[str, list[tuple[str, int]]]:
-        """All credits of the recordings of which an account has one, or of one of them, in the order of the pool's lines."""
-        wanted = "SELECT isrc FROM credits WHERE pool = ?1 AND +account = ?2 AND (?3 IS NULL OR isrc = ?3)"
-        question = f"SELECT isrc, account, units FROM credits WHERE pool = ?1 AND +isrc IN ({wanted}) ORDER BY line"
-        found: dict[str, list[tuple[str, int]]] = {}
-        for it, to, units in self.copy.rows(question, self.pool, account, isrc):
-            found.setdefault(it, []).append((to, units))
-        return found
+    def place(self, it: Row) -> tuple[str, int, int]:
+        """Where the version of a row stands: its sender, its file, its place there."""
+        question = "SELECT number, place FROM versions WHERE sender = ? AND work = ? AND revision = ?"
+        number, place = self.copy.row(question, it.sender, it.work, it.revision)
+        return it.sender, number, place
 
-    def load(self, isrcs: Iterable[str]) -> None:
-        """Reads the works of some recordings, each file once."""
-        owners = [it for isrc in isrcs if (it := self.claims.owner(isrc, self.cut)) is not None]
-        self.works.load((it.sender, it.number, it.place) for it in owners)
+    def lines(self, said: Sequence[Row], part: Part) -> Iterator[tuple[Explained, str]]:
+        """Every credit of a recording with its account."""
+        owned, names = self.owner(said[0])
+        played = tuple(self.played.get(said[0].isrc, ()))
+        for it, name, share in zip(said, [*names, ""], parts([(it.weight, it.part) for it in said])):
+            yield Explained(it.isrc, owned, played, part, name, share, it.part), it.account
 
-    def lines(self, isrc: str, credited: list[tuple[str, int]]) -> Iterator[tuple[Explained, str]]:
-        """Every credit of a recording with its account; an OfficeError where the copy has others."""
-        owned, parties = self.owner(isrc)
-        part = self.parts.get(isrc)
-        shares = split(part.units, [it.weight for it in parties]) if part else []
-        if part is None or credited != [(it.account, share.units) for it, share in zip(parties, shares)]:
-            raise OfficeError(f"{self.copy.path} is not sound: pool {self.pool} credits {isrc} otherwise than its order says; {CURE}")
-        for it, share in zip(parties, shares):
-            yield Explained(isrc, owned, tuple(self.played.get(isrc, ())), part, it.name, share, share.units), it.account
-
-    def owner(self, isrc: str) -> tuple[Owned, list["Weighed"]]:
-        """The work that a recording's part goes to, and by which weights it is split."""
-        there = [] if isrc == NO_RECORDING else self.claims.at(isrc, self.cut)
-        if len(there) != 1:
-            return Owned(why=why_nobody(isrc, there)), [Weighed(UNCLAIMED, "", 1)]
-        [claim] = there
-        transaction = self.works.transaction(claim.sender, claim.number, claim.place)
-        name = self.names.get(claim.sender, "")
-        owned = Owned(transaction.title, claim.work, claim.sender, name, as_sent(claim.number))
-        return owned, weighed(holders(transaction, claim.sender, self.copy.territory), self.right)
-
-
-@dataclasses.dataclass(frozen=True)
-class Weighed:
-    """A holder of a work: its account, its name, and its weight in a right."""
-
-    account: str
-    name: str
-    weight: int
-
-
-def weighed(parties: list[Holder], right: str) -> list[Weighed]:
-    """The holders of a work in their order; the last one is nobody, with what the others leave of the whole."""
-    return [*(Weighed(it.account, it.name, it.weight(right)) for it in parties), Weighed(UNCLAIMED, "", rest(parties, right))]
+    def owner(self, it: Row) -> tuple[Owned, list[str]]:
+        """The work that a recording's part goes to, and the names of its parties."""
+        if not it.sender:
+            return Owned(why=why_nobody(it.isrc, self.owners.at(it.isrc, self.pool))), []
+        place = self.place(it)
+        transaction = self.works.transaction(*place)
+        owned = Owned(transaction.title, it.work, it.sender, self.names.get(it.sender, ""), as_sent(place[1]))
+        return owned, [one.name for one in transaction.parties(it.sender)]
 
 
 def why_nobody(isrc: str, there: Sequence[Claim]) -> str:
@@ -162,11 +174,6 @@ def why_nobody(isrc: str, there: Sequence[Claim]) -> str:
     if not there:
         return "no work of the cut names it"
     return f"{counted(len(there), 'work')} of the cut name it: {', '.join(f'{it.work} of {it.sender}' for it in there)}"
-
-
-def whole_of(amount: int) -> Part:
-    """The part of a pool without points: all of it."""
-    return split(amount, [1])[0]
 
 
 def played_of(copy: Copy, pool: int) -> dict[str, list[Played]]:

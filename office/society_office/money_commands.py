@@ -11,7 +11,7 @@ from society_office.command_words import with_decisions
 from society_office.copy import Copy
 from society_office.errors import OfficeError
 from society_office.numbering import ranges
-from society_office.pages import write_text
+from society_office.pages import write_out
 from society_office.program import find_program, open_whole
 from society_office.return_names import entries
 from society_office.terminal import console, say
@@ -90,10 +90,7 @@ def propose(
         found = orders.propose(noted(opened), amount, kind, wanted, decided(opened, folder).void)
     order_output.tell_proposal(found)
     orders.refuse_empty(found.order, wanted)
-    if output:
-        write_text(output, found.json + "\n")
-    else:
-        say(found.json)
+    write_out(found.order.json + "\n", output)
 
 
 @click.command(cls=Command, epilog=COPY_HELP, short_help="What an order would do, before it is sent.")

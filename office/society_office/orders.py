@@ -53,11 +53,6 @@ class Proposal:
     remarks: list[str]
     pool: int
 
-    @property
-    def json(self) -> str:
-        """The order as it is sent."""
-        return self.order.json
-
 
 @dataclasses.dataclass(frozen=True)
 class Wanted:
@@ -111,6 +106,16 @@ def free_pool(copy: Copy) -> int:
     if (least := next((it for it in range(1, LAST_POOL + 1) if it not in used), None)) is None:
         raise OfficeError(f"all pool numbers up to {LAST_POOL:,} are used")
     return least
+
+
+def pool_for(copy: Copy, order: bytes) -> int:
+    """The number of the pool that an order closes: of the office itself that of its own returns, of any other the next free one."""
+    try:
+        numbers = {int(number) for reporter, number in json.loads(order)["returns"] if is_numbered_down(str(reporter))}
+    except (ValueError, TypeError, KeyError, RecursionError):
+        numbers = set()
+    [own] = numbers if len(numbers) == 1 else [0]
+    return own if 1 <= own <= LAST_POOL else free_pool(copy)
 
 
 def why_not(it: Stored, void: Sequence[Entry]) -> str:

@@ -45,11 +45,6 @@ def amends(pool: int) -> str:
     return f"{AMEND}{pool}"
 
 
-def corrects(pool: int) -> str:
-    """The reporter of the returns that corrected a pool in an older book."""
-    return f"{CORRECTED}{pool}"
-
-
 def amended_by(reporter: str) -> int | None:
     """The pool that a reporter's returns amend; None where they amend none."""
     found = REPORTER.fullmatch(reporter)

@@ -7,6 +7,7 @@ import functools
 import os
 import pathlib
 import shutil
+import sys
 from collections.abc import Callable, Iterable, Iterator
 from typing import Any, TextIO
 
@@ -80,6 +81,14 @@ def write_pdf(html: str, target: pathlib.Path) -> None:
 def write_text(target: pathlib.Path, text: str) -> None:
     """Writes a text into a file, as write_bytes does."""
     write_bytes(target, text.encode())
+
+
+def write_out(text: str, target: pathlib.Path | None) -> None:
+    """Writes a text into a file, or to standard output where none is named."""
+    if target:
+        write_text(target, text)
+    else:
+        sys.stdout.write(text)
 
 
 def text_of(path: pathlib.Path) -> str:

@@ -17,8 +17,7 @@ from society_office.decisions import Decisions
 from society_office.dues import Dues
 from society_office.errors import OfficeError
 from society_office.numbering import as_sent, counted, rank_of
-from society_office.orders import LAST_POOL, free_pool
-from society_office.own_returns import is_numbered_down
+from society_office.orders import pool_for
 from society_office.plays import BOM
 from society_office.pool_kinds import Book
 from society_office.program import Answer, trial_of
@@ -56,7 +55,7 @@ def rehearse(program: str, copy: Copy, file: pathlib.Path, pool: int | None, kno
     """Sends an order to a throw-away office over the copy; what it made of it can be read while the `with` lasts."""
     copy.need_derived()
     order = file.read_bytes()
-    number = pool or own_number(order) or free_pool(copy)
+    number = pool or pool_for(copy, order)
     with trial_of(program, copy) as trial:
         answer = trial.office.ask("PUT", f"/v1/pools/{number}", order)
         trial.end()
@@ -86,15 +85,6 @@ def form_hint(order: bytes) -> str:
     except (UnicodeDecodeError, RecursionError):
         return ""
     return ""
-
-
-def own_number(order: bytes) -> int | None:
-    """The number of the pool that an order of the office itself closes: that of its own returns."""
-    try:
-        numbers = {int(number) for reporter, number in json.loads(order)["returns"] if is_numbered_down(str(reporter))}
-    except (ValueError, TypeError, KeyError, RecursionError):
-        return None
-    return next((it for it in numbers if len(numbers) == 1 and 1 <= it <= LAST_POOL), None)
 
 
 def notes_on_dues(then: Copy, pool: int, known: Decisions, program: str) -> Iterator[str]:

@@ -9,11 +9,12 @@ from rich.table import Table
 
 from society_office import pages
 from society_office.copy import Copy
+from society_office.lines import as_csv
 from society_office.numbering import counted
 from society_office.parties import names_of, parties
 from society_office.pool_names import PoolNames
 from society_office.spans import Span
-from society_office.statements import Statement, Statements, Sum, as_csv, folder_of
+from society_office.statements import Statement, Statements, Sum, folder_of
 from society_office.terminal import console, counting, say, table
 
 # A page of a statement shows no more lines, works and accounts than this; its CSV has them all.

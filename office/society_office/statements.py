@@ -1,23 +1,19 @@
 """Statements: every credit of an account, or of a publisher's works, with sums by pool, by work and in all."""
 
-import csv
 import dataclasses
 import functools
-import io
 import itertools
 import operator
 import re
 from collections.abc import Iterable, Iterator
 from typing import NamedTuple, TextIO
 
-from society_office.claims import Claim, Claims
 from society_office.copy import Copy
 from society_office.errors import OfficeError
-from society_office.lines import COLUMNS, NO_RECORDING, NO_WORK, Credit, Lines, Pools, Sums, sums_of
-from society_office.many_lines import ManyLines
+from society_office.lines import NO_WORK, Credit, Sums, Words, held, write_csv
+from society_office.owners import OWNER, Claim, Owners
 from society_office.parties import names_of, parties
-from society_office.plain_text import plain
-from society_office.pool_names import PoolNames, named
+from society_office.pool_names import PoolNames
 from society_office.records import UNCLAIMED, Works, sender_names
 from society_office.spans import Span
 
@@ -25,13 +21,9 @@ SENDER = re.compile(r"[0-9A-Z]{11}", re.ASCII)
 # What is a sender by its form, and an account that was mistyped by its looks.
 MISTYPED, HINT = re.compile(r"I[0-9]{10}|[0-9]{11}", re.ASCII), " (an account of an IPI name number is I and eleven digits)"
 ACCOUNT = re.compile(r"UNCLAIMED|I[0-9]{11}|P[0-9A-Z]{11}[!-~]([ -~]{0,7}[!-~])?", re.ASCII)
-# How many lines are noted at once.
-AT_ONCE = 10_000
-# Rows of an account that are read at once and put in order; more of them are read pool by pool.
-MOST_SORTED = 50_000
-MOST_NAMING = 2_000
-# Works that are held whole; of more of them the titles of their files are.
-MOST_LOADED = 5_000
+# Lines in their order. All rows are looked at in any case; by the key's index they would be looked up one by one.
+LINES = f"""SELECT pool, isrc, account, units, {OWNER} FROM credits c NOT INDEXED
+  WHERE {{}} AND pool BETWEEN ? AND ? ORDER BY pool, line"""
 
 
 class Sum(NamedTuple):
@@ -99,7 +91,7 @@ class Statement:
     @functools.cached_property
     def by_account(self) -> list[Sum]:
         """The units by account, the greatest first."""
-        return greatest_first(((account,), units) for account, units in self.sums.by_account.items())
+        return greatest_first(((account,), units) for account, units in self.sums.by_account.items() if self.is_of_publisher)
 
 
 def greatest_first(sums: Iterable[tuple[tuple[str, ...], int]]) -> list[Sum]:
@@ -111,39 +103,41 @@ class Statements:
     """Statements out of one copy."""
 
     def __init__(self, copy: Copy) -> None:
-        """Reads what all statements need: cuts and rights of the pools, and the senders' names."""
+        """Reads what all statements need: the rights of the pools, and the senders' names."""
         copy.need_derived()
         self.copy, self.works = copy, Works(copy)
-        self.cuts, self.rights = copy.cuts(), copy.rights()
-        self.names = sender_names(copy)
+        self.rights, self.names = copy.rights(), sender_names(copy)
 
-    def credit(self, claims: Claims, pool: int, isrc: str, account: str, units: int) -> Credit:
-        """A row of the credits with the title and the work that it comes from."""
-        owner = None if isrc == NO_RECORDING else claims.owner(isrc, self.cuts[pool])
-        if owner is None:
-            return Credit(pool, self.rights[pool], isrc, "", "", "", account, units)
-        title = self.works.title(owner.sender, owner.number, owner.place)
-        return Credit(pool, self.rights[pool], isrc, title, owner.work, owner.sender, account, units)
+    def begin(self, which: str = "", *values: str) -> None:
+        """Looks up who owns the recordings that a question lists, or all of them; titles are read when lines are."""
+        self.owners, self.owned = Owners(self.copy, which, *values), dict[int, Claim]()
+        self.words: dict[int | None, Words] = {None: NO_WORK}
+
+    def credits(self, rows: Iterable[tuple[int, str, str, int, int | None]]) -> Iterator[Credit]:
+        """Rows of credits with the titles and the works that they come from."""
+        words, rights = self.words, self.rights
+        for pool, isrc, account, units, owner in rows:
+            if owner is not None and owner not in words:
+                it = self.owned[owner] = self.owners.row(owner)
+                words[owner] = self.works.title(it.sender, it.number, it.place), it.work, it.sender
+            yield Credit(pool, rights[pool], isrc, *words[owner], account, units)
 
     def of(self, key: str, *pools: int) -> Statement:
         """The statement of an account or of a sender of files, by all pools or those of a span; an OfficeError where the key is neither."""
         span = Span(*pools)
+        credits, sums = held(self.lines(key, span))
         if is_sender(self.copy, key):
-            credits, sums = self.lines_of_publisher(key, span).read()
             accounts = names_of(parties(self.copy, key))
             return Statement(key, self.names.get(key, ""), self.copy.name, span, credits, sums, None, self.names, accounts)
-        lines, name = self.lines_of_account(key, span)
-        credits, sums = lines.read()
-        listed = {key: name} if sums.count else self.named(key)
-        name = listed.get(key, name)
+        listed = {key: self.name_of(key)} if sums.count else self.named(key)
+        name = listed.get(key, "")
         return Statement(key, name, self.copy.name, span, credits, sums, self.balance(key), self.names, {key: name}, key in listed)
 
     def write_csv(self, key: str, span: Span, out: TextIO, names: PoolNames) -> Statement:
         """Writes every line as CSV while it is read; answers the statement without lines and names, to be compared with the balance."""
+        sums = write_csv(self.lines(key, span), names, out)
         if is_sender(self.copy, key):
-            sums = self.lines_of_publisher(key, span).write(out, names)
             return Statement(key, "", self.copy.name, span, [], sums, None, {}, {})
-        sums = self.lines_of_account(key, span)[0].write(out, names)
         return Statement(key, "", self.copy.name, span, [], sums, self.balance(key), {}, {}, bool(sums.count) or key in self.named(key))
 
     def named(self, account: str) -> dict[str, str]:
@@ -157,98 +151,47 @@ class Statements:
         found = self.copy.row("SELECT units FROM balances WHERE account = ?", account)
         return int(found[0]) if found else 0
 
-    def lines_of_account(self, account: str, span: Span) -> tuple[Lines, str]:
-        """What an account was credited by some pools, and the account's name."""
-        # All rows are looked at in any case; by the key's index they would be looked up one by one.
-        question = "SELECT pool, line, isrc, units FROM credits NOT INDEXED WHERE account = ? AND pool BETWEEN ? AND ? LIMIT ?"
-        rows = sorted(self.copy.listed(question, account, *span, MOST_SORTED + 1))
-        are_many = len(rows) > MOST_SORTED
-        claims = Claims(self.copy, None if are_many else {it[2] for it in rows})
-        pools = by_pool((pool, isrc, None, units) for pool, _, isrc, units in rows)
-        if are_many:
-            # (what stands on UNCLAIMED is of no party; of another account the last rows that were read have works with its name)
-            rows = [] if account == UNCLAIMED else rows[-MOST_NAMING:]
-        owners = {owner for pool, _, isrc, _ in rows if (owner := claims.owner(isrc, self.cuts[pool]))}
-        if len(owners) <= MOST_LOADED:
-            self.works.load((it.sender, it.number, it.place) for it in owners)
-        name = self.name_of(account, sorted(owners, key=lambda it: (-it.number, it.sender, it.place)))
-        if are_many:
-            pools, copy = self.pools_of(account, span), self.copy
-            return ManyLines(claims, self.works, self.cuts, self.rights, pools, account=account, copy=copy, span=span), name
-        return Lines(claims, self.works, self.cuts, self.rights, pools, account=account), name
+    def lines(self, key: str, span: Span) -> Iterator[Credit]:
+        """What some pools have credited to an account, or for the works of a sender to whatever account."""
+        if is_sender(self.copy, key):
+            self.begin("SELECT isrc FROM recordings WHERE sender = ?", key)
+            rows = self.copy.rows(LINES.format("isrc IN (SELECT isrc FROM temp.named)"), *span)
+            return (it for it in self.credits(rows) if it.publisher == key)
+        self.begin("SELECT isrc FROM credits NOT INDEXED WHERE account = ?", key)
+        return self.credits(self.copy.rows(LINES.format("account = ?"), key, *span))
 
-    def pools_of(self, account: str, span: Span) -> Pools:
-        """The rows of an account, pool by pool."""
-        question = "SELECT isrc, NULL, units FROM credits WHERE pool = ? AND +account = ? ORDER BY line"
-        for pool in self.cuts:
-            if span.has(pool):
-                yield pool, self.copy.listed(question, pool, account)
-
-    def lines_of_publisher(self, sender: str, span: Span) -> Lines:
-        """What the works of a sender earned by some pools, for whatever account."""
-        own = [it[0] for it in self.copy.rows("SELECT DISTINCT isrc FROM recordings WHERE sender = ?", sender)]
-        # Looking 3,000,000 rows up in a table of its own takes two thirds of the time that a list takes.
-        self.copy.database.execute("CREATE TEMP TABLE own (isrc TEXT PRIMARY KEY) WITHOUT ROWID")
-        self.copy.database.executemany("INSERT INTO own VALUES (?)", ((it,) for it in own))
-        question = """SELECT pool, isrc, account, units FROM credits NOT INDEXED
-          WHERE pool BETWEEN ? AND ? AND isrc IN (SELECT isrc FROM own) ORDER BY pool, line"""
-        pools = by_pool(self.copy.rows(question, *span))
-        return Lines(Claims(self.copy, own), self.works, self.cuts, self.rights, pools, only=sender)
-
-    def name_of(self, account: str, owners: Iterable[Claim]) -> str:
-        """The name that the first of these versions gives the account's party."""
-        for owner in owners:
-            transaction = self.works.transaction(owner.sender, owner.number, owner.place)
-            for party in transaction.parties(owner.sender):
+    def name_of(self, account: str) -> str:
+        """The name that the last of the works that lines come from gives an account's party."""
+        owned = [] if account == UNCLAIMED else sorted(self.owned.values(), key=lambda it: (-it.number, it.sender, it.place))
+        for it in owned:
+            for party in self.works.transaction(it.sender, it.number, it.place).parties(it.sender):
                 if party.account == account and party.name:
                     return party.name
         return ""
 
     def all(self, span: Span, names: dict[str, str]) -> Iterator[Statement]:
-        """The statement of each account and then of each publisher, one after another; `names` has the names of accounts."""
-        claims = Claims(self.copy)
-        self.copy.database.execute("CREATE TEMP TABLE earned (sender TEXT, pool INTEGER, line INTEGER)")
-        yield from self.each_account(claims, span, names)
-        yield from self.each_publisher(claims, span, names)
-
-    def each_account(self, claims: Claims, span: Span, names: dict[str, str]) -> Iterator[Statement]:
-        """The statement of each account but that of what nobody was paid."""
+        """The statement of each account but that of what nobody was paid, and then of each publisher that has works; `names` has the names
+        of accounts."""
+        self.begin()
+        self.copy.listed("CREATE TEMP TABLE earned (pool INTEGER, line INTEGER, isrc TEXT, account TEXT, units INTEGER, owner INTEGER)")
+        credits = f"SELECT pool, line, isrc, account, units, {OWNER} FROM credits c WHERE pool BETWEEN ? AND ?"
+        self.copy.listed(f"INSERT INTO earned {credits}", *span)
         balances = dict(self.copy.rows("SELECT account, units FROM balances"))
-        question = "SELECT account, pool, line, isrc, units FROM credits WHERE pool BETWEEN ? AND ? ORDER BY account, pool, line"
-        for account, rows in itertools.groupby(self.copy.rows(question, *span), key=operator.itemgetter(0)):
-            lines = list(self.noted_lines(claims, account, rows))
-            if account != UNCLAIMED:
-                name, balance = names.get(account, ""), balances.get(account, 0)
-                yield Statement(account, name, self.copy.name, span, lines, sums_of(lines), balance, self.names, names)
-
-    def noted_lines(self, claims: Claims, account: str, rows: Iterable[tuple[str, int, int, str, int]]) -> Iterator[Credit]:
-        """The lines of an account; whose work each comes from is noted in the table `earned`. What nobody was paid is noted only."""
-        earned = []
-        for _, pool, line, isrc, units in rows:
-            owner = None if isrc == NO_RECORDING else claims.owner(isrc, self.cuts[pool])
-            if owner:
-                earned.append((owner.sender, pool, line))
-            if account != UNCLAIMED:
-                yield self.credit(claims, pool, isrc, account, units)
-            elif len(earned) == AT_ONCE:
-                self.note_earned(earned)
-        self.note_earned(earned)
-
-    def note_earned(self, earned: list[tuple[str, int, int]]) -> None:
-        """Notes whose works some lines come from, and empties the list."""
-        self.copy.database.executemany("INSERT INTO earned VALUES (?, ?, ?)", earned)
-        earned.clear()
-
-    def each_publisher(self, claims: Claims, span: Span, names: dict[str, str]) -> Iterator[Statement]:
-        """The statement of each publisher that has works, by the table `earned`."""
+        for key, lines in self.earned("account", f"WHERE account <> '{UNCLAIMED}'"):
+            sums, balance = held(lines)[1], balances.get(key, 0)
+            yield Statement(key, names.get(key, ""), self.copy.name, span, lines, sums, balance, self.names, names)
         others = {it.sender for it in self.copy.lines() if it.works}
-        question = "SELECT sender, pool, isrc, account, units FROM earned JOIN credits USING (pool, line) ORDER BY sender, pool, line"
-        for sender, rows in itertools.groupby(self.copy.rows(question), key=operator.itemgetter(0)):
-            lines = [self.credit(claims, pool, isrc, account, units) for _, pool, isrc, account, units in rows]
-            others.discard(sender)
-            yield Statement(sender, self.names.get(sender, ""), self.copy.name, span, lines, sums_of(lines), None, self.names, names)
-        for sender in sorted(others):
-            yield Statement(sender, self.names.get(sender, ""), self.copy.name, span, [], Sums(), None, self.names, names)
+        for key, lines in self.earned("sender", "JOIN temp.named n ON n.rowid = owner"):
+            others.discard(key)
+            yield Statement(key, self.names.get(key, ""), self.copy.name, span, lines, held(lines)[1], None, self.names, names)
+        for key in sorted(others):
+            yield Statement(key, self.names.get(key, ""), self.copy.name, span, [], Sums(), None, self.names, names)
+
+    def earned(self, by: str, which: str) -> Iterator[tuple[str, list[Credit]]]:
+        """The lines of each account or sender, one after another."""
+        question = f"SELECT pool, e.isrc, account, units, owner, {by} FROM earned e {which} ORDER BY {by}, pool, line"
+        for key, rows in itertools.groupby(self.copy.rows(question), key=operator.itemgetter(5)):
+            yield key, list(self.credits(it[:5] for it in rows))
 
 
 def is_sender(copy: Copy, key: str) -> bool:
@@ -262,29 +205,6 @@ def is_sender(copy: Copy, key: str) -> bool:
         return False
     copy.need_line(key, HINT if MISTYPED.fullmatch(key) else "")
     return True
-
-
-def by_pool(rows: Iterable[tuple[int, str, str | None, int]]) -> Pools:
-    """Rows in the order of their pools, pool by pool."""
-    for pool, listed in itertools.groupby(rows, key=operator.itemgetter(0)):
-        yield pool, ((isrc, account, units) for _, isrc, account, units in listed)
-
-
-def as_csv(credits: Iterable[Credit], names: PoolNames) -> str:
-    """The lines of a statement as CSV, with a header."""
-    out = io.StringIO()
-    write_csv(credits, names, out)
-    return out.getvalue()
-
-
-def write_csv(credits: Iterable[Credit], names: PoolNames, out: TextIO) -> None:
-    """Writes the lines of a statement as CSV, with a header, line by line."""
-    writer = csv.writer(out, lineterminator="\n")
-    writer.writerow(COLUMNS)
-    for it in credits:
-        name, first, last = named(names, it.pool)
-        own = (plain(it.title), plain(it.work), it.publisher, plain(it.account), it.units)
-        writer.writerow([*it[:3], *own, plain(name), first, last])
 
 
 def folder_of(key: str) -> str:

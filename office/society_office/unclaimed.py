@@ -7,13 +7,14 @@ import json
 from collections.abc import Iterable, Iterator, Mapping, Sequence
 from typing import Any, NamedTuple
 
-from society_office.claims import Claim, Claims
 from society_office.copy import Copy
+from society_office.fields import WHOLE
+from society_office.lines import NO_RECORDING
 from society_office.numbering import as_sent
+from society_office.owners import CLAIMS, Claim, Owners
 from society_office.records import UNCLAIMED, Transaction, Works, shown_number, transactions
-from society_office.shares import holders, nobodys, percent_text, shares_text
 
-NO_RECORDING = "-"
+NAMELESS = " (with neither an IPI name number nor an IP #)"
 TO_NOBODY = f"account = '{UNCLAIMED}' AND units > 0"
 
 
@@ -60,6 +61,10 @@ class Claimant:
     file: str
 
 
+# By recording why works that name it are none of the office, and these.
+Named = dict[str, tuple[str, tuple[Claimant, ...]]]
+
+
 @dataclasses.dataclass(frozen=True)
 class Item:
     """Units of a pool that went to nobody for one recording."""
@@ -74,20 +79,14 @@ class Item:
     since: str = ""
     part: int = 0
 
-    @property
-    def title(self) -> str:
-        """The title of the first work that names it."""
-        return self.claimants[0].title if self.claimants else ""
-
 
 class Found(NamedTuple):
-    """Units of a recording that went to nobody, their cause, and what names the recording: at the cut, or ever where nothing does there."""
+    """Units of a recording that went to nobody, and their cause."""
 
     pool: int
     isrc: str
     units: int
     cause: Cause
-    claims: Sequence[Claim]
 
 
 class Unclaimed:
@@ -96,28 +95,28 @@ class Unclaimed:
     def __init__(self, copy: Copy) -> None:
         """Reads cuts and rights; bodies are read when a cause asks for them."""
         copy.need_derived()
-        self.copy, self.works, self.claims = copy, Works(copy), Claims(copy, ())
+        self.copy, self.works = copy, Works(copy)
+        self.owners = Owners(copy, f"SELECT isrc FROM credits NOT INDEXED WHERE {TO_NOBODY}")
         self.cuts, self.rights = copy.cuts(), copy.rights()
 
     def each(self, pool: int | None = None) -> Iterator[Found]:
         """What went to nobody by pool and recording, in the order of the pools and their lines; of one pool where one is given."""
         which, values = (f"NOT INDEXED WHERE {TO_NOBODY}", ()) if pool is None else (f"WHERE {TO_NOBODY} AND pool = ?", (pool,))
-        self.claims = Claims(self.copy, (it[0] for it in self.copy.rows(f"SELECT DISTINCT isrc FROM credits {which}", *values)))
         # A work may have several lines to nobody: one for each party that no number names, and what all parties leave.
-        question = f"SELECT pool, isrc, sum(units) FROM credits {which} GROUP BY pool, isrc ORDER BY pool, min(line)"
-        for number, isrc, units in self.copy.rows(question, *values):
-            yield Found(number, isrc, units, *self.cause(number, isrc))
+        found = f"SELECT pool, isrc, sum(units) AS units, min(line) AS line FROM credits {which} GROUP BY pool, isrc"
+        question = f"SELECT pool, isrc, units, {CLAIMS}, isrc IN (SELECT isrc FROM temp.named) FROM ({found}) c ORDER BY pool, line"
+        for number, isrc, units, claims, is_named in self.copy.rows(question, *values):
+            yield Found(number, isrc, units, self.cause(isrc, claims, is_named))
 
-    def cause(self, pool: int, isrc: str) -> tuple[Cause, Sequence[Claim]]:
-        """Why nobody was paid for a recording."""
+    def cause(self, isrc: str, claims: int, is_named: bool) -> Cause:
+        """Why nobody was paid for a recording that so many works of the cut name, or which a version ever names."""
         if isrc == NO_RECORDING:
-            return Cause.NO_PLAYS, ()
-        there = self.claims.at(isrc, self.cuts[pool])
-        if there:
-            return (Cause.SHARE if len(there) == 1 else Cause.CONFLICT), there
-        if ever := self.claims.ever(isrc):
-            return Cause.LATE, ever
-        return (Cause.REJECTED if isrc in self.rejected else Cause.WAITING if isrc in self.waiting else Cause.NOBODY), ()
+            return Cause.NO_PLAYS
+        if claims:
+            return Cause.SHARE if claims == 1 else Cause.CONFLICT
+        if is_named:
+            return Cause.LATE
+        return Cause.REJECTED if isrc in self.rejected else Cause.WAITING if isrc in self.waiting else Cause.NOBODY
 
     def items(self, pool: int | None = None) -> list[Item]:
         """All of it with titles and claimants; of one pool where one is given."""
@@ -125,86 +124,81 @@ class Unclaimed:
 
     def told(self, listed: Sequence[Found]) -> list[Item]:
         """Some of it with titles and claimants; each file is read once."""
-        self.works.load((it.sender, it.number, it.place) for found in listed for it in found.claims)
-        return [self.item(it) for it in listed]
+        claims = [self.claims(it) for it in listed]
+        self.works.load((it.sender, it.number, it.place) for found in claims for it in found)
+        lines = self.lines(it for it in listed if it.cause is Cause.SHARE)
+        return [self.item(it, named, lines.get((it.pool, it.isrc), [])) for it, named in zip(listed, claims)]
+
+    def claims(self, it: Found) -> Sequence[Claim]:
+        """What names a recording: at the cut, or ever where nothing does there."""
+        return self.owners.at(it.isrc, it.pool) if it.cause in (Cause.SHARE, Cause.CONFLICT) else self.owners.ever(it.isrc)
+
+    def lines(self, listed: Iterable[Found]) -> dict[tuple[int, str], list[tuple[str, int]]]:
+        """All credits of some recordings in their pools, in the order of their parties."""
+        found: dict[tuple[int, str], list[tuple[str, int]]] = {(it.pool, it.isrc): [] for it in listed}
+        for pool in {it[0] for it in found}:
+            for isrc, account, units in self.copy.rows("SELECT isrc, account, units FROM credits WHERE pool = ? ORDER BY line", pool):
+                if (own := found.get((pool, isrc))) is not None:
+                    own.append((account, units))
+        return found
 
     def claimant(self, claim: Claim) -> Claimant:
         """A work that names a recording, with its title in the version that does."""
         title = self.works.title(claim.sender, claim.number, claim.place)
         return Claimant(claim.sender, claim.work, title, as_sent(claim.number))
 
-    def item(self, it: Found) -> Item:
+    def item(self, it: Found, claims: Sequence[Claim], lines: Sequence[tuple[str, int]]) -> Item:
         """It with titles, claimants, and why."""
-        right, cut = self.rights[it.pool], self.cuts[it.pool]
-        named = tuple(dict.fromkeys(map(self.claimant, it.claims)))
+        named = tuple(dict.fromkeys(map(self.claimant, claims)))
         why, since, part = "no file names it", "", 0
         if it.cause is Cause.NO_PLAYS:
             why = "the pool has no points"
         elif it.cause is Cause.CONFLICT:
-            why, since = f"{len(it.claims)} works of the cut name it", self.settled(it.isrc)
+            why, since = f"{len(claims)} works of the cut name it", self.settled(it.isrc)
         elif it.cause is Cause.SHARE:
-            why, since, part = self.uncollected(it.claims[0], right)
+            whole = sum(units for _, units in lines)
+            why, since = self.uncollected(it, claims[0], lines), "" if claims[0].is_last else "revised since"
+            part = (it.units * WHOLE + whole // 2) // whole
         elif it.cause is Cause.LATE:
-            why, since = late_text(it.claims, cut), self.settled(it.isrc)
+            why, since = late_text(claims, self.cuts[it.pool]), self.settled(it.isrc)
         elif it.cause in (Cause.REJECTED, Cause.WAITING):
             why, named = (self.rejected if it.cause is Cause.REJECTED else self.waiting)[it.isrc]
-        return Item(it.pool, right, it.isrc, it.units, it.cause, named, why, since, part)
+        return Item(it.pool, self.rights[it.pool], it.isrc, it.units, it.cause, named, why, since, part)
 
-    def uncollected(self, claim: Claim, right: str) -> tuple[str, str, int]:
-        """What is collected of a work in a right, what became of it since, and what nobody collects."""
-        transaction = self.works.transaction(claim.sender, claim.number, claim.place)
-        found = holders(transaction, claim.sender, self.copy.territory)
-        rest = nobodys(found, right)
-        since = "" if claim.is_last else "revised since"
-        return f"nobody collects {percent_text(rest)} of the {right}: {shares_text(found, right)}", since, rest
+    def uncollected(self, it: Found, claim: Claim, lines: Sequence[tuple[str, int]]) -> str:
+        """What nobody collects of a recording's units, and who collects how many: `ANNA WRITER 500`."""
+        parties = self.works.transaction(claim.sender, claim.number, claim.place).parties(claim.sender)
+        told = [f"{one.name or to} {units:,}{NAMELESS if to == UNCLAIMED else ''}" for one, (to, units) in zip(parties, lines)]
+        return f"nobody collects {it.units:,} of its {sum(units for _, units in lines):,} units: {', '.join(told) or 'no party'}"
 
     def settled(self, isrc: str) -> str:
         """Whose a recording is now, where only one work still names it; the empty text where there are more, or none."""
-        now = self.claims.now(isrc)
+        now = [it for it in self.owners.ever(isrc) if it.is_last]
         return f"now only {now[0].sender} {now[0].work} names it" if len(now) == 1 else ""
 
     @functools.cached_property
-    def rejected(self) -> dict[str, tuple[str, tuple[Claimant, ...]]]:
+    def rejected(self) -> Named:
         """What rejected works name."""
-        faults: dict[tuple[str, int], dict[int, int]] = {}
-        for sender, number, place, fault in self.copy.rows("SELECT sender, number, place, fault FROM verdicts WHERE fault > 0"):
-            faults.setdefault((sender, number), {})[place] = fault
-        found: dict[str, tuple[str, tuple[Claimant, ...]]] = {}
-        for (sender, number), places in faults.items():
-            listed = transactions(self.copy.body(sender, number))
-            for place, fault in places.items():
-                note(found, sender, number, [listed[place]], f"rejected with fault {fault}")
-        return found
+        rows = self.copy.listed("SELECT sender, number, place, fault FROM verdicts WHERE fault > 0 ORDER BY sender, number, place")
+        self.works.load(it[:3] for it in rows)
+        return named_by((it[0], it[1], self.works.transaction(*it[:3]), f"rejected with fault {it[3]}") for it in rows)
 
     @functools.cached_property
-    def waiting(self) -> dict[str, tuple[str, tuple[Claimant, ...]]]:
+    def waiting(self) -> Named:
         """What works of files name that wait."""
-        found: dict[str, tuple[str, tuple[Claimant, ...]]] = {}
-        for line in self.copy.lines():
-            for number in line.waiting + line.skipped:
-                note(
-                    found,
-                    line.sender,
-                    number,
-                    transactions(self.copy.body(line.sender, number)),
-                    "the file is not applied",
-                )
-        return found
+        files = [(line.sender, number) for line in self.copy.lines() for number in line.waiting + line.skipped]
+        return named_by((it[0], it[1], work, "the file is not applied") for it in files for work in transactions(self.copy.body(*it)))
 
 
-def note(
-    found: dict[str, tuple[str, tuple[Claimant, ...]]],
-    sender: str,
-    number: int,
-    listed: Iterable[Transaction],
-    why: str,
-) -> None:
-    """Adds the recordings of some works, which are no works of the office, with why they are none."""
-    for it in listed:
+def named_by(works: Iterable[tuple[str, int, Transaction, str]]) -> Named:
+    """The recordings of works that are none of the office, each with its sender, its file and why it is none."""
+    found: Named = {}
+    for sender, number, it, why in works:
         claimant = Claimant(sender, shown_number(it.work), it.title, as_sent(number))
         for isrc in it.isrcs:
             had = found.get(isrc, (why, ()))
             found[isrc] = (had[0], (*had[1], claimant))
+    return found
 
 
 def late_text(ever: Sequence[Claim], cut: Mapping[str, int]) -> str:

@@ -185,7 +185,7 @@ class WorkReader:
     def read_sums(self) -> None:
         """Faults of the shares of all parties; they are told at the first record, with the lines that they add up."""
         owners = [(at, it) for at, it in enumerate(self.lines) if it[:3] in PARTIES]
-        collected = holders_of(self.lines, "", self.territory)
+        collected = holders_of(self.lines, self.territory)
         for k, right in enumerate(RIGHTS):
             owned = [(at, share(PARTIES[line[:3]].owns[k].of(line))) for at, line in owners]
             self.note_sum(WorkFault.OWNED, f"{right} ownership", owned)

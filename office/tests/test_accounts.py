@@ -17,10 +17,11 @@ import reckoning
 from answers import balances_by_pool, check_balances, check_explained, check_stored
 from conftest import further
 from office_value import Pool, Return, return_body
+from society_office.dues import shared
 from society_office.errors import OfficeError
+from society_office.explaining import parts
 from society_office.page_sums import changed
 from society_office.pool_names import names_in
-from society_office.splitting import split
 from society_office.statements import folder_of
 from test_statements import run
 
@@ -34,10 +35,22 @@ def test_a_split(seed: int) -> None:
     rng = random.Random(seed)
     weights = [rng.choice([0, 1, 3, rng.randint(0, 10 ** rng.randint(1, 12))]) for _ in range(rng.randint(1, 9))] + [1]
     amount = rng.choice([0, 1, rng.randint(0, 10 ** rng.randint(1, 12))])
-    parts = split(amount, weights)
-    assert [it.units for it in parts] == reckoning.split(amount, weights)
-    assert sorted(it.place for it in parts) == list(range(1, len(weights) + 1))
-    assert all(it.whole + it.last == it.units and it.left == sum(one.last for one in parts) for it in parts)
+    units = reckoning.split(amount, weights)
+    found = parts(list(zip(weights, units)))
+    assert [it.units for it in found] == units and all(it.amount == amount and it.all_weights == sum(weights) for it in found)
+    assert sorted(it.place for it in found) == list(range(1, len(weights) + 1))
+    assert all(it.whole + it.last == it.units and it.left == sum(one.last for one in found) for it in found)
+    assert all(it.last == (it.place <= it.left) for it in found)
+
+
+@pytest.mark.parametrize("seed", range(100))
+def test_what_accounts_would_get(seed: int) -> None:
+    rng = random.Random(seed)
+    weights = [(rng.choice(["A", "B", "C"]), rng.choice([0, 1, 3, rng.randint(0, 10_000)])) for _ in range(rng.randint(1, 6))] + [("C", 1)]
+    amount, wanted = rng.choice([0, 1, 2, rng.randint(0, 10 ** rng.randint(1, 12))]), collections.Counter[str]()
+    for (account, _), units in zip(weights, reckoning.split(amount, [it[1] for it in weights])):
+        wanted[account] += units
+    assert shared(amount, weights) == wanted
 
 
 @pytest.mark.parametrize("pool, account", CREDITS)

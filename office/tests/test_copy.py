@@ -69,18 +69,19 @@ def test_older_layouts(copy: pathlib.Path, monkeypatch: pytest.MonkeyPatch) -> N
     assert "reads the layouts 1 to 3" in refused(copy)
 
 
-def test_layout_1_is_taken_over(tmp_path: pathlib.Path, program: str, monkeypatch: pytest.MonkeyPatch) -> None:
-    monkeypatch.setenv("SOCIETY_PROGRAM", program)
+@pytest.mark.parametrize("layout, gone", [(1, DERIVED), (2, "")])
+def test_an_older_layout_is_taken_over(tmp_path: pathlib.Path, program: str, layout: int, gone: str) -> None:
     path = tmp_path / "old.db"
     with served(program, path) as connection:
         for where, name in (("senders/PB000000012/transmissions/1", "cwr"), ("returns/RADIO1/1", "csv"), ("pools/7", "json")):
             connection.request("PUT", f"/v1/{where}", (ROOT / f"examples/first.{name}").read_bytes())
             assert connection.getresponse().read().startswith(b'{"')
     with changed(path) as database:
-        database.executescript(f"DROP TABLE mechanical_pools; DROP TABLE segment_ends; {DERIVED}")
-        database.execute("UPDATE office SET layout = 1")
+        database.executescript(f"DROP TABLE mechanical_pools; DROP TABLE segment_ends; {gone}")
+        database.execute("UPDATE office SET layout = ?", (layout,))
     before = path.read_bytes()
     assert "50,000 units in all, which is the balance" in run("statement", path, "I00000000295")
+    assert "50,000 units in all, which is what the statement has" in run("explain", path, "I00000000295", "--pool", 7)
     assert path.read_bytes() == before
 
 

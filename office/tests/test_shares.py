@@ -3,8 +3,10 @@
 import cwr
 import pytest
 from cwr import Party, Row
+from society_office import shares
+from society_office.explain_output import percent_text
 from society_office.records import account_of, transactions
-from society_office.shares import Holder, holders, nobodys, percent_text, rest, shares_text
+from society_office.shares import Holder
 
 NOTHING = ("00000", "00000", "00000")
 SENDER = "PB000000012"
@@ -13,7 +15,7 @@ SENDER = "PB000000012"
 def holders_of(*parties: Party, territory: int = 40) -> list[Holder]:
     """The holders of a work with these parties."""
     body = cwr.file(SENDER, "IT", [cwr.Work("NWR", "W1", "IT", (), parties)])
-    return holders(transactions(body)[0], SENDER, territory)
+    return shares.holders_of([it.rstrip(b"\r") for it in transactions(body)[0].raw.split(b"\n")], territory)
 
 
 def party(*rows: Row, number: str = "P1", ipi: str = "", kind: str = "SPU") -> Party:
@@ -37,7 +39,6 @@ def party(*rows: Row, number: str = "P1", ipi: str = "", kind: str = "SPU") -> P
 @pytest.mark.parametrize("kind", ["SPU", "OPU", "SWR", "OWR"])
 def test_the_last_row_that_counts(rows: list[Row], collects: tuple[int, int, int], kind: str) -> None:
     assert [it.collects for it in holders_of(party(*rows, kind=kind))] == [collects]
-    assert [it.weight("MR") for it in holders_of(party(*rows, kind=kind))] == [collects[1]]
 
 
 def test_a_row_is_of_the_nearest_party_before_it() -> None:
@@ -64,13 +65,5 @@ def test_accounts(ipi: bytes, number: bytes, account: str) -> None:
     assert account_of(SENDER, ipi, number) == account
 
 
-def test_what_is_nobodys() -> None:
-    found = holders_of(party(Row(("03333", "00000", "00000")), ipi="199"), party(Row(("05000", "10000", "00000")), number=""))
-    assert (rest(found, "PR"), nobodys(found, "PR"), rest(found, "MR"), nobodys(found, "MR")) == (1_667, 6_667, 0, 10_000)
-    assert shares_text(found, "PR") == "NAME P1 33.33 %, NAME 50 % (with neither an IPI name number nor an IP #)"
+def test_shares_in_words() -> None:
     assert [percent_text(it) for it in (0, 1, 50, 5_000, 10_006)] == ["0 %", "0.01 %", "0.5 %", "50 %", "100.06 %"]
-
-
-def test_holders_that_have_more_than_the_whole_leave_nothing() -> None:
-    found = holders_of(party(Row(("05003", "05000", "00000"))), party(Row(("05003", "04999", "00000")), number="P2"))
-    assert (rest(found, "PR"), nobodys(found, "PR"), rest(found, "MR")) == (0, 0, 1)
