@@ -2,10 +2,11 @@
 """Measures society-office over a large office: seconds and peak memory of each command.
 
 The program makes the office: works in files of 800 of some senders, each with a publisher and a writer, a recording and a title of its
-own, and of every twentieth work half is nobody's; pools over as many returns, each with a row for every tenth work. The status is 1
-where a command fails.
+own, and of every twentieth work half is nobody's; pools over as many returns, each with a row for every tenth work. With --all, `dues` is
+also measured where every pool is amended, so that the program is asked for all of its credits. The status is 1 where a command fails.
 """
 import argparse
+import dataclasses
 import json
 import os
 import pathlib
@@ -18,8 +19,11 @@ OFFICE = pathlib.Path(__file__).resolve().parent.parent
 ROOT = OFFICE.parent
 sys.path.insert(0, str(OFFICE))
 
-from society_office import fields, plays  # noqa: E402 (the folder of the checkout comes first)
+from society_office import decisions, fields, plays  # noqa: E402 (the folder of the checkout comes first)
+from society_office.amendments import order_over  # noqa: E402
 from society_office.copy import open_copy  # noqa: E402
+from society_office.own_returns import ROWLESS, amends  # noqa: E402
+from society_office.pool_kinds import Book  # noqa: E402
 from society_office.program import Office, find_program, trial_office  # noqa: E402
 
 FIRST_LINES = (ROOT / "examples/first.cwr").read_bytes().split(b"\r\n")
@@ -112,6 +116,23 @@ def add_pool(office: Office, pool: int, works: int, cut: dict[str, int]) -> None
     sent(office, f"pools/{pool}", json.dumps(order).encode())
 
 
+def amend_all(path: pathlib.Path, target: pathlib.Path, folder: pathlib.Path) -> None:
+    """Writes a copy in which every pool is amended to a unit more, and the folder of decisions with the list of these amendments."""
+    with open_copy(path) as copy:
+        book = Book(copy)
+    should = {pool: dataclasses.replace(it, amount=it.amount + 1) for pool, it in book.orders.items()}
+    numbers = dict(zip(should, range(book.next_number(), 0, -1)))
+    with trial_office(find_program(), WORDS, path) as trial:
+        for pool, number in numbers.items():
+            sent(trial.office, f"returns/{amends(pool)}/{number}", ROWLESS.encode())
+            sent(trial.office, f"pools/{number}", order_over(book, number, pool, should[pool]).json.encode())
+        trial.end()
+        with open_copy(trial.database) as copy:
+            copy.save(target)
+    decisions.begin(folder)
+    decisions.add(folder, decisions.AMENDMENTS, [f"{numbers[it]} {it} {should[it].json}" for it in should], "amend", "to be measured")
+
+
 def measured(*words: str) -> None:
     """Runs the command and reports its seconds and its peak memory."""
     begun = time.monotonic()
@@ -149,6 +170,8 @@ def main() -> None:
             make(path, options.works, options.pools, options.senders)
         print(f"{options.works:,} works, {options.pools:,} pools: {path.stat().st_size / 1e6:,.0f} MB")
         copy, some = str(path.resolve()), min(3, options.senders - 1)
+        decisions.begin(pathlib.Path(folder) / "decided")
+        os.environ.setdefault(decisions.VARIABLE, f"{folder}/decided")
         measured("statement", copy, f"I{writer(17)}", "--format", "csv")
         measured("statement", copy, f"I{writer(17)}", "--format", "html", "--output", f"{folder}/writer.html")
         measured("statement", copy, f"I{publisher(some)}", "--format", "csv", "--output", f"{folder}/publisher.csv")
@@ -164,7 +187,10 @@ def main() -> None:
         measured("propose", copy, "--amount", "100000", "--no-returns")
         measured("why", copy, sender_of(some))
         measured("site", copy, "--into", f"{folder}/site")
+        measured("dues", copy)
         if options.all:
+            amend_all(path, pathlib.Path(folder) / "large-office-with-amendments-of-all-pools.db", pathlib.Path(folder) / "decisions")
+            measured("dues", f"{folder}/large-office-with-amendments-of-all-pools.db", "--decisions", f"{folder}/decisions")
             measured("rebuild", copy)
             measured("compare", copy, copy)
             measured("statement", copy, "--all", "--into", f"{folder}/statements")

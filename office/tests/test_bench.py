@@ -7,7 +7,7 @@ import sys
 import pytest
 from conftest import ROOT
 
-MEASURED = ["statement", "explain", "balances", "parties", "unclaimed", "propose", "why", "site", "rebuild", "compare"]
+MEASURED = ["statement", "explain", "balances", "parties", "unclaimed", "propose", "why", "site", "dues", "rebuild", "compare"]
 
 
 def test_the_measurement_runs(program: str) -> None:
@@ -18,6 +18,12 @@ def test_the_measurement_runs(program: str) -> None:
     assert lines[0].startswith("900 works, 7 pools: ") and [it for it in MEASURED if not any(line.startswith(it) for line in lines)] == []
     assert all(" s of processor, " in it and it.endswith("]") for it in lines[1:])
     assert "statements in " in lines[-1] and "all equal to the balances" in lines[-1]
+
+
+def test_the_comparison_of_credits_runs(program: str) -> None:
+    words = [sys.executable, ROOT / "office/bench/credits.py", "--count", "3"]
+    done = subprocess.run(words, capture_output=True, text=True, check=False, env={**os.environ, "SOCIETY_PROGRAM": program})
+    assert (done.returncode, done.stderr) == (0, "") and done.stdout.endswith("3 random offices, differing: none\n")
 
 
 @pytest.mark.parametrize(
