@@ -2,8 +2,8 @@
 """Measures society-office over a large office: seconds and peak memory of each command.
 
 The program makes the office: works in files of 800 of some senders, each with a publisher and a writer, a recording and a title of its
-own, and of every twentieth work half is nobody's; pools over as many returns, each with a row for every tenth work. With --all, `dues` is
-also measured where every pool is amended, so that the program is asked for all of its credits. The status is 1 where a command fails.
+own, and of every twentieth work half is nobody's; pools over as many returns, each with a row for every tenth work. `dues` is measured also
+where some pools are amended, of which the program is asked for every credit. The status is 1 where a command fails.
 """
 import argparse
 import dataclasses
@@ -116,11 +116,11 @@ def add_pool(office: Office, pool: int, works: int, cut: dict[str, int]) -> None
     sent(office, f"pools/{pool}", json.dumps(order).encode())
 
 
-def amend_all(path: pathlib.Path, target: pathlib.Path, folder: pathlib.Path) -> None:
-    """Writes a copy in which every pool is amended to a unit more, and the folder of decisions with the list of these amendments."""
+def amend(path: pathlib.Path, target: pathlib.Path, folder: pathlib.Path, count: int) -> None:
+    """Writes a copy in which the first pools are amended to a unit more, and the folder of decisions with the list of these amendments."""
     with open_copy(path) as copy:
         book = Book(copy)
-    should = {pool: dataclasses.replace(it, amount=it.amount + 1) for pool, it in book.orders.items()}
+    should = {pool: dataclasses.replace(it, amount=it.amount + 1) for pool, it in list(book.orders.items())[:count]}
     numbers = dict(zip(should, range(book.next_number(), 0, -1)))
     with trial_office(find_program(), WORDS, path) as trial:
         for pool, number in numbers.items():
@@ -159,6 +159,7 @@ def main() -> None:
     options.add_argument("--works", type=int, default=100_000)
     options.add_argument("--pools", type=int, default=100)
     options.add_argument("--senders", type=int, default=50, help="publishers, of as many works each (default: 50)")
+    options.add_argument("--amended", type=int, default=10, help="pools that are amended (default: 10)")
     options.add_argument("--file", type=pathlib.Path, help="keep the office in this file; it is used again where it is there")
     options.add_argument("--all", action="store_true", help="also a rebuilt office, and the statements of everybody")
     options = options.parse_args()
@@ -188,9 +189,9 @@ def main() -> None:
         measured("why", copy, sender_of(some))
         measured("site", copy, "--into", f"{folder}/site")
         measured("dues", copy)
+        amend(path, then := pathlib.Path(folder) / "large-office-with-amendments.db", pathlib.Path(folder) / "amended", options.amended)
+        measured("dues", f"{then}", "--next", f"{folder}/next", "--decisions", f"{folder}/amended")
         if options.all:
-            amend_all(path, pathlib.Path(folder) / "large-office-with-amendments-of-all-pools.db", pathlib.Path(folder) / "decisions")
-            measured("dues", f"{folder}/large-office-with-amendments-of-all-pools.db", "--decisions", f"{folder}/decisions")
             measured("rebuild", copy)
             measured("compare", copy, copy)
             measured("statement", copy, "--all", "--into", f"{folder}/statements")
