@@ -167,8 +167,8 @@ def test_a_book_with_rounds_and_corrections_of_before(program: str, tmp_path: pa
         Pool(4, "PR", 200, {HOUSE: 2}, [("CORRECTED2", 2)]),
     ]
     desk.steps(*steps)
-    assert "pool 2 was corrected by CORRECTED2: say once by which order it is due" in desk.run("dues", status=1)
-    assert "with --was-corrected" in desk.run("amend", 2, "--amount", 250, status=1)
+    told = "pool 2 was corrected by CORRECTED2: say once by which order it is due: `amend COPY 2 --was-corrected ..`"
+    assert told in desk.run("dues", status=1) and told in desk.run("amend", 2, "--amount", 250, status=1)
     desk.amend(2, "--amount", 250, "--was-corrected")
     assert desk.accounts() == {ANNA: (1_000, 600), BORIS: (250, 200), "UNCLAIMED": (0, 1_300)}
     # The work of the round owns the recording of the first pool from then on, whoever claims it later.
