@@ -9,7 +9,7 @@ import reckoning
 from conftest import further
 from office_value import File, Pool, Return, order_body
 from society_office.copy import open_copy
-from society_office.orders import Wanted, propose
+from society_office.orders import Wanted, pool_for, propose
 from society_office.unclaimed import Cause, Unclaimed
 from test_statements import run
 
@@ -138,6 +138,23 @@ def test_an_order_is_rehearsed(copy: pathlib.Path, tmp_path: pathlib.Path, progr
     (tmp_path / "order.json").write_bytes(order_body(quarter.POOLS[0]).replace(b"1000003", b"5"))
     assert "is paid by pool 1: leave it out" in run("rehearse", copy, tmp_path / "order.json", "--program", program, status=1, out=True)
     assert copy.read_bytes() == before and {it.name for it in copy.parent.iterdir()} == {"copy.db", "order.json"}
+
+
+@pytest.mark.parametrize(
+    "order, pool",
+    [
+        ('{"returns":[["LATE3F0A9C21",99999]]}', 99_999),
+        ('{"returns":[["AMEND1",99998],["RADIO1",4]]}', 99_998),
+        ('{"returns":[["LATE3F0A9C21",100000]]}', 6),
+        ('{"returns":[["LATE3F0A9C21",99999],["DUE3F0A9C21",99998]]}', 6),
+        ('{"returns":[["RADIO1",4]]}', 6),
+        ('{"returns":[["RADIO1"', 6),
+        ("[]", 6),
+    ],
+)
+def test_the_pool_that_an_order_closes(copy: pathlib.Path, order: str, pool: int) -> None:
+    with open_copy(copy) as opened:
+        assert pool_for(opened, order.encode()) == pool
 
 
 @pytest.mark.parametrize(
