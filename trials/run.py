@@ -27,6 +27,7 @@ import files
 import flips
 import greatest
 import leaving
+import logs
 import openings
 import pauses
 import readings

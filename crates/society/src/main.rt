@@ -40,7 +40,7 @@ fn run(rt: &HostRuntime) -> u8 {
     // A torn write may leave any bytes: nothing more is supposed of the files.
     let (outcome, left) = start(
         Host::new(rt),
-        HostFiles::new(rt, Wary),
+        HostFiles::new(rt, Wary, Host::new(rt)),
         alloc,
         words.as_slice(),
         &mut reader,

@@ -34,8 +34,9 @@ pub trait OpenDatabase {
         ensures found { IfOk result (λ found. may_find path.now found) }
         ensures failed { IfErr result (may_fail path.now) };
 
-    /// A connection to the database at a path, new and with no limit; where there is none it is made. `Memory` where memory was refused,
-    /// `Damaged` where it is not as it was written, else `Store`; with what is left of the files, or the opener where it could open none.
+    /// A connection to the database at a path, new and with no limit; where there is none it is made. `Memory` where memory was refused, `Log`
+    /// where its log is not as a stop leaves it, `Empty` where it has no table and no page sums, `Damaged` where it is not as it was written,
+    /// else `Store`; with what is left of the files, or the opener where it could open none.
     fn open_database(
         self,
         path: &str,

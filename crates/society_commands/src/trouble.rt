@@ -93,5 +93,6 @@ fn database_fault(fault: OpenFault) -> &'static str
         OpenFault::Schema => "schema",
         OpenFault::OtherOffice => "of another office",
         OpenFault::Damaged => "damaged",
+        OpenFault::Log => "log",
     }
 }

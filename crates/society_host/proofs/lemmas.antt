@@ -1,2 +1,3 @@
 -- What is proved of the definitions, for the proofs of functions.
+pub mod ExaminedLemmas
 pub mod RefusalLemmas

@@ -1,3 +1,4 @@
+pub mod Examined
 pub mod Found
 pub mod Parting
 pub mod Refusals

@@ -45,9 +45,10 @@ presence_by_log bytes = if nat_lt 41 bytes then Err fault.Damaged else Ok false
 abbrev pub HoldsNone : Image → Type 0
 HoldsNone image = ¬ (((db : Trees) × HoldsDatabase image db) ⊎ IsNothing image)
 
--- what is told of a path where no database was opened as an office's: memory was refused, the store failed, or damage (profile)
+-- what is told of a path where no database was opened as an office's: memory was refused, the store failed, or damage of file or log; or
+-- that there is a database with no table, which is not begun (profile)
 abbrev pub IsToldOfNone : OpenFault → Type 0
-IsToldOfNone told = (told ≡ fault.Memory) ⊎ ((told ≡ fault.Store) ⊎ (told ≡ fault.Damaged))
+IsToldOfNone told = (told ≡ fault.Memory) ⊎ ((told ≡ fault.Store) ⊎ ((told ≡ fault.Damaged) ⊎ ((told ≡ fault.Log) ⊎ (told ≡ fault.Empty))))
 
 -- Files that were as they are known to be when they are opened were refused, and this is left of them: damage is told only where they hold
 -- no database or the disk failed, and they are left so that they recover as before. Or no file could be opened.

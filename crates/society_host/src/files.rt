@@ -2,9 +2,12 @@
 ghost use Rattle.std.specs.Prelude.{◌≡◌, ◌⊎◌, IfErr, false, true};
 ghost use Rattle.sqlite_std_file.specs.File.{IsFresh};
 ghost use Rattle.sqlite_wal.specs.Files.{image_at};
+ghost use Rattle.society_host.specs.Examined.{IsExamined};
 ghost use Rattle.society_host.specs.Found.{IsFoundIn};
 ghost use Rattle.society_host.specs.Refusals.{FaultsAs, IsToldOfNone, RefusesFiles, fault_by_start, presence_by, presence_by_log};
 
+use crate::examining::examine;
+use crate::reading::ReadFiles;
 use society_commands::{Left, OpenDatabase};
 use society_opening::OpenFault;
 use sqlite::{Connection, Error, ErrorCode, FileFrom, FileStore, Start};
@@ -13,7 +16,7 @@ use std::io::{ErrorKind, Read, Write};
 use std::os::unix::fs::PermissionsExt;
 
 /// What every database file begins with (SQLite's file format, 1.3.1).
-const HEADER: &[u8] = b"SQLite format 3\0";
+pub(crate) const HEADER: &[u8] = b"SQLite format 3\0";
 
 /// Bytes of a log that holds no page: it is cut to so many when it was copied.
 const EMPTY_LOG: u64 = 41;
@@ -27,31 +30,33 @@ const OWN: u32 = 0o600;
 /// That group or others may write a file.
 const OTHERS_WRITE: u32 = 0o022;
 
-/// The files of this machine, where `S` stands for what the file that is opened holds. It opens one.
+/// The files of this machine, where `S` stands for what the file that is opened holds, and `M` reads it before that. It opens one.
 #[derive(Drop)]
-pub struct HostFiles<'a, S: Start> {
+pub struct HostFiles<'a, S: Start, M: ReadFiles> {
     runtime: &'a HostRuntime,
     found: Option<S>,
+    reader: M,
 }
 
-impl<'a, S: Start> HostFiles<'a, S> {
+impl<'a, S: Start, M: ReadFiles + Drop> HostFiles<'a, S, M> {
     /// The files of this runtime's machine.
-    pub fn new(runtime: &'a HostRuntime, found: S) -> HostFiles<'a, S> {
+    pub fn new(runtime: &'a HostRuntime, found: S, reader: M) -> HostFiles<'a, S, M> {
         HostFiles {
             runtime,
             found: Some(found),
+            reader,
         }
     }
 }
 
-impl<'a, S: Start> OpenDatabase for HostFiles<'a, S> {
+impl<'a, S: Start, M: ReadFiles + Drop> OpenDatabase for HostFiles<'a, S, M> {
     type File = FileFrom<S>;
 
     // No clause of the system's ties a path to what is there.
     ghost may_find = { λ path found. Unit {0} };
 
     // Nor to bytes: `S` stands for those of the file that is opened.
-    ghost may_open = { λ g path c. IsFoundIn (image_at S.Start) c };
+    ghost may_open = { λ g path c. IsFoundIn (image_at S.Start) c × IsExamined M.ReadFiles M.File.ReadAt path };
 
     ghost may_fail = { λ path fault. IsToldOfNone fault };
 
@@ -66,15 +71,25 @@ impl<'a, S: Start> OpenDatabase for HostFiles<'a, S> {
         path: &str,
     ) -> Result<Connection<FileStore<Self::File>>, (OpenFault, Left<Self::File, Self>)> {
         let runtime = self.runtime;
+        let HostFiles {
+            runtime: _,
+            found,
+            reader,
+        } = self;
         let used = HostFiles {
             runtime,
             found: None,
+            reader,
         };
         let was_there = match look(runtime, path) {
             Ok(was_there) => was_there,
             Err(fault) => return Err((fault, Left::Unopened(used))),
         };
-        let Some(found) = self.found else {
+        match examine(runtime.alloc(), &used.reader, path) {
+            Ok(()) => {}
+            Err(fault) => return Err((fault, Left::Unopened(used))),
+        }
+        let Some(found) = found else {
             return Err((OpenFault::Store, Left::Unopened(used)));
         };
         match Connection::open_from(runtime, path, NEW_HAS_SUMS, found) {

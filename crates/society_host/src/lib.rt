@@ -2,13 +2,16 @@
 //! opens by these calls.
 #![tactic(auto)]
 
+mod examining;
 mod files;
 mod listening;
 mod parting;
 mod patience;
+mod reading;
 mod streams;
 
 pub use files::HostFiles;
 pub use listening::{Host, HostDoor};
 pub use patience::Patient;
+pub use reading::{HostFile, ReadFiles};
 pub use streams::{StandardStreams, without_streams};

@@ -23,7 +23,7 @@ const NO_DESCRIPTOR: [i32; 2] = [23, 24];
 /// The machine that the program runs on.
 #[derive(Clone, Copy)]
 pub struct Host<'a> {
-    runtime: &'a HostRuntime,
+    pub(crate) runtime: &'a HostRuntime,
 }
 
 impl<'a> Host<'a> {

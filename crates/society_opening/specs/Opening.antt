@@ -36,7 +36,7 @@ IsOneOffice layout (row ∷ []) = IsOfForms (office_forms_under layout) row
 IsOneOffice layout (row ∷ other ∷ rows) = ⊥
 
 -- what a fault says of the rows of offices under a layout: that no office can be read, that it is another, or that it is this one; where
--- there are such rows none says `Empty`
+-- there are such rows none says `Empty`, nor `Log`, which is said before a database is opened
 abbrev pub TellsOffice : ℕ → Office → List Row → OpenFault → Type 0
 TellsOffice layout office rows fault.Memory = Unit {0}
 TellsOffice layout office rows fault.Store = Unit {0}
@@ -44,6 +44,7 @@ TellsOffice layout office rows fault.Empty = ⊥
 TellsOffice layout office rows fault.Schema = ¬ IsOneOffice layout rows
 TellsOffice layout office rows fault.OtherOffice = IsOneOffice layout rows × (rows ≢ office_row_under layout office ∷ [])
 TellsOffice layout office rows fault.Damaged = rows ≡ office_row_under layout office ∷ []
+TellsOffice layout office rows fault.Log = ⊥
 
 -- so it says of the rows that a database has
 abbrev pub TellsOfficeIn : ℕ → Office → Database → OpenFault → Type 0
@@ -71,6 +72,7 @@ TellsDatabase office db fault.OtherOffice =
     (HasLayout db × TellsOfficeIn 3 office db fault.OtherOffice)
     ⊎ ((layout : OlderLayout) × HasOlder layout db × TellsOfficeIn (number_of layout) office db fault.OtherOffice)
 TellsDatabase office db fault.Damaged = IsDamaged office db ⊎ ((layout : OlderLayout) × IsDamagedOlder office layout db)
+TellsDatabase office db fault.Log = ⊥
 
 -- a fault that says nothing of what the database has: memory was refused, or the database failed
 abbrev pub IsOutside : OpenFault → Type 0

@@ -29,6 +29,9 @@ pub enum OpenFault {
     /// The tables are not what the requests that they keep make of an empty book.
     #[error("damaged")]
     Damaged,
+    /// The log is not as a stop of the office leaves it.
+    #[error("log")]
+    Log,
 }
 
 impl From<RowFault> for OpenFault {

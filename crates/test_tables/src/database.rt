@@ -99,5 +99,6 @@ fn words_of(fault: OpenFault) -> &'static str {
         OpenFault::Schema => "other tables",
         OpenFault::OtherOffice => "another office",
         OpenFault::Damaged => "damaged",
+        OpenFault::Log => "a damaged log",
     }
 }

@@ -61,6 +61,7 @@ outside_told o db fault.Empty outside = absurd outside
 outside_told o db fault.Schema outside = absurd outside
 outside_told o db fault.OtherOffice outside = absurd outside
 outside_told o db fault.Damaged outside = absurd outside
+outside_told o db fault.Log outside = absurd outside
 
 -- rows that do not pass are no empty database
 abbrev is_empty : OpenFault → Bool
@@ -101,6 +102,7 @@ told_likewise n o one two fault.Schema same err = λ is. err (one_likewise n one
 told_likewise n o one two fault.OtherOffice same err =
     (one_likewise n two one (IsPermutation-sym one two same) err.0, λ is. err.1 (one_else (office_row_under n o) two (subst (λ rows. IsPermutation rows two) is same)))
 told_likewise n o one two fault.Damaged same err = one_else (office_row_under n o) one (subst (λ rows. IsPermutation rows one) err (IsPermutation-sym one two same))
+told_likewise n o one two fault.Log same err = absurd err
 
 any_order : (db : Trees) (rows : List Row) (width : ℕ) → Lists layout.office (λ _. true) width db rows → IsPermutation (rows_in layout.office db) rows
 any_order db rows width lists = subst (λ l. IsPermutation l rows) (all_pass (rows_in layout.office db)) lists.rows
@@ -161,6 +163,7 @@ told_of_layout o db fault.Empty has err damaged = absurd err
 told_of_layout o db fault.Schema has err damaged = (λ bare. not_both db bare has, λ _. err, λ layout was. absurd (older_apart layout db was has))
 told_of_layout o db fault.OtherOffice has err damaged = inl (has, err)
 told_of_layout o db fault.Damaged has err damaged = inl (has, err, damaged refl)
+told_of_layout o db fault.Log has err damaged = absurd err
 
 -- and of one of an older layout
 pub told_of_older : (o : Office) (layout : OlderLayout) (db : Database) (e : OpenFault) → HasOlder layout db → TellsOfficeIn (number_of layout) o db e → (e ≡ fault.Damaged → ¬ HoldsOlder o layout db.trees) → TellsDatabase o db e
@@ -174,6 +177,7 @@ told_of_older o layout db fault.Schema was err damaged = (
 )
 told_of_older o layout db fault.OtherOffice was err damaged = inr (layout, was, err)
 told_of_older o layout db fault.Damaged was err damaged = inr (layout, (was, err, damaged refl))
+told_of_older o layout db fault.Log was err damaged = absurd err
 
 nothing_alone : (x y : ⊥) → x ≡ y
 nothing_alone x y = absurd x
@@ -207,6 +211,7 @@ opened_else o db fault.Damaged has holds err = elim err [
   | inl newest ↦ refuted o db holds newest.2
   | inr older ↦ absurd (older_apart older.0 db older.1.0 has)
 ]
+opened_else o db fault.Log has holds err = absurd err
 
 -- so of one of an older layout that stands for tables that do
 pub opened_older : (o : Office) (layout : OlderLayout) (db : Database) (e : OpenFault) → HasOlder layout db → HoldsOlder o layout db.trees → TellsDatabase o db e → IsOutside e
@@ -222,6 +227,7 @@ opened_older o layout db fault.Damaged was held err = elim err [
   | inl newest ↦ absurd (older_apart layout db was newest.0)
   | inr other ↦ absurd ((subst (λ (l : OlderLayout). IsDamagedOlder o l db) (older_once other.0 layout db other.1.0 was) other.1).2 held)
 ]
+opened_older o layout db fault.Log was held err = absurd err
 
 -- a fault that is aside is not told as damage
 abbrev is_damage : OpenFault → Bool

@@ -30,6 +30,7 @@ outside_alone fault.Empty x y = absurd x
 outside_alone fault.Schema x y = absurd x
 outside_alone fault.OtherOffice x y = absurd x
 outside_alone fault.Damaged x y = absurd x
+outside_alone fault.Log x y = absurd x
 
 module _ (o : Office) (s : State) (rests : ∥ IsAtRest o s ∥₁) (opened : IsTrue s.is_open) where
   -- the opening of a connection at rest shows its book

@@ -2,12 +2,15 @@ use Rattle.society_host.proofs.lemmas.RefusalLemmas.{refuses}
 use Rattle.society_host.proofs.files.HostFilesOpenDatabase.open_database.Goals as goal
 
 pub returns-in-Ok-open_from-clause-opened : goal.returns-in-Ok-open_from-clause-opened
-returns-in-Ok-open_from-clause-opened g c = record {
-  shows = λ clean.
-      let o = c.in-Ok-open_from.ensures.opened clean in
-      (o.0, o.1, c.in-Ok-open_from.ensures.found clean);
-  sums = c.in-Ok-open_from.ensures.sums;
-}
+returns-in-Ok-open_from-clause-opened g c = (
+  record {
+    shows = λ clean.
+        let o = c.in-Ok-open_from.ensures.opened clean in
+        (o.0, o.1, c.in-Ok-open_from.ensures.found clean);
+    sums = c.in-Ok-open_from.ensures.sums;
+  },
+  c.in-Ok-examine.ensures.examined,
+)
 
 pub returns-in-Err-default-Some-clause-refused : goal.returns-in-Err-default-Some-clause-refused
 returns-in-Err-default-Some-clause-refused g c =
