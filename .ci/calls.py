@@ -1,7 +1,7 @@
 """Which crates may touch the machine, and by which calls.
 
-The rule: of the program's crates society_host and society alone name the runtime of the host, and what they call of the libraries that reach
-the machine, or open a database, is what .ci/calls/NAME lists. No other crate of the program has an `impl Disk` or an `impl Calls`, or calls what
+The rule: of the program's crates society alone names the runtime of the host, and what it calls of the libraries that reach
+the machine, or open a database, is what .ci/calls/society lists. No other crate of the program has an `impl Disk` or an `impl Calls`, or calls what
 opens a database. What a crate calls is told by the prover (`rattle check --list-calls`), over the libraries that `rt ci` left.
 """
 import concurrent.futures
@@ -53,7 +53,7 @@ def others_that_reach(below):
             continue
         for file in sorted((CRATES / name / "src").rglob("*.rt")):
             for found in REACHES.findall(code_of(file)):
-                yield f"calls: {file.relative_to(TOP)} has {found.strip()!r}, which society_host and society alone may have"
+                yield f"calls: {file.relative_to(TOP)} has {found.strip()!r}, which society alone may have"
 
 
 def sum_of(top, name, below):

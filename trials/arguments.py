@@ -30,6 +30,8 @@ WRONG = [
     ("serve|--db|F|--port|0|--connections|1|--society|900|--territory|40|--name|X", "error: invalid value '0' for '--port <N>': 0 is not in 1..=65535\n"),
     ("serve|--db|F|--port|65536|--connections|1|--society|900|--territory|40|--name|X", "error: invalid value '65536' for '--port <N>': 65536 is not in 1..=65535\n"),
     ("serve|--db|F|--port|1|--connections|0|--society|900|--territory|40|--name|X", "error: invalid value '0' for '--connections <N>': 0 is not in 1..=1000000\n"),
+    ("serve|--db|F|--port|1|--connections|1|--patience|0|--society|900|--territory|40|--name|X", "error: invalid value '0' for '--patience <SECONDS>': 0 is not in 1..=86400\n"),
+    ("serve|--db|F|--port|1|--connections|1|--patience|86401|--society|900|--territory|40|--name|X", "error: invalid value '86401' for '--patience <SECONDS>': 86401 is not in 1..=86400\n"),
     ("serve|--db|F|--port|1|--connections|1000001|--society|900|--territory|40|--name|X", "error: invalid value '1000001' for '--connections <N>': 1000001 is not in 1..=1000000\n"),
     ("replay|--territory|40|--society|900|--territory|40|--name|X", "error: the argument '--territory <N>' cannot be used multiple times\n"),
     ("replay|--name|X|--society|900|--territory|40|--name|X", "error: the argument '--name <TEXT>' cannot be used multiple times\n"),
@@ -71,14 +73,15 @@ Listen on this machine and answer the requests of connections
 Usage: society serve [OPTIONS] --db <PATH> --port <N> --connections <N> --society <N> --territory <N> --name <TEXT>
 
 Options:
-      --db <PATH>        File of the office's database, made where there is none
-      --existing         Serve only a file that holds an office already
-      --port <N>         Port of this machine, 1 to 65535
-      --connections <N>  Connections to serve, one after another, 1 to 1000000
-      --society <N>      Number of the society, 1 to 999
-      --territory <N>    Territory of the office, 1 to 9999
-      --name <TEXT>      Name of the office, 1 to 45 bytes of printable ASCII
-  -h, --help             Print help
+      --db <PATH>           File of the office's database, made where there is none
+      --existing            Serve only a file that holds an office already
+      --port <N>            Port of this machine, 1 to 65535
+      --connections <N>     Connections to serve, one after another, 1 to 1000000
+      --patience <SECONDS>  Longest wait for a peer in all, and again for each MiB that moves, 1 to 86400, else 300
+      --society <N>         Number of the society, 1 to 999
+      --territory <N>       Territory of the office, 1 to 9999
+      --name <TEXT>         Name of the office, 1 to 45 bytes of printable ASCII
+  -h, --help                Print help
 """
 
 # What `audit --help` tells.

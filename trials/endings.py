@@ -4,6 +4,7 @@ import errno
 import http.client
 import re
 import resource
+import select
 import socket
 import struct
 import time
@@ -135,6 +136,39 @@ def slow_and_silent_peers(program, folder):
             told("the one after a silent peer", server.sent(get(f"/v1/senders/{SENDER}")), answer(b"200 OK", b'{"front":1,"held":[]}'))
             told("not before its time", time.monotonic() - begun > 28, True)
         told("its line", server.ended().out.splitlines()[2], b"connection 2: read fault after 0 requests")
+
+
+@trial
+def a_peer_that_uses_up_the_patience(program, folder):
+    """One of a byte each half second is let go once it has kept the office waiting for so long in all, and the put behind it is answered."""
+    asked = put_file(FIRST, 1)
+    with Server(program, folder, "office.db", connections=2, patience=4) as server:
+        with connected(server) as slow:
+            begun = time.monotonic()
+            with connected(server) as waiting:
+                waiting.sendall(asked)
+                waiting.shutdown(socket.SHUT_WR)
+                for place in range(40):
+                    with contextlib.suppress(OSError):
+                        slow.sendall(asked[place : place + 1])
+                    if select.select([waiting], [], [], 0.5)[0]:
+                        break
+                told("the put behind it", read_all(waiting), applied(1))
+            told("after the patience", 3 < time.monotonic() - begun < 12, True)
+        told("its line", server.ended().out.splitlines()[1], b"connection 1: read fault after 0 requests")
+
+
+@trial
+def a_slow_line_with_patience(program, folder):
+    """A body that comes in pieces, with pauses that are shorter than the patience in all, is taken."""
+    asked = put_file(FIRST, 1)
+    with Server(program, folder, "office.db", patience=30) as server:
+        with connected(server) as peer:
+            for place in range(0, len(asked), len(asked) // 5 + 1):
+                peer.sendall(asked[place : place + len(asked) // 5 + 1])
+                time.sleep(0.3)
+            peer.shutdown(socket.SHUT_WR)
+            told("a slow line", read_all(peer), applied(1))
 
 
 @trial

@@ -81,11 +81,12 @@ def office_of(society):
 class Server:
     """`society serve` over a database of the folder, on a free port."""
 
-    def __init__(self, program, folder, path, connections=1, existing=False, society=900, closed="", **limits):
+    def __init__(self, program, folder, path, connections=1, existing=False, society=900, closed="", patience=None, **limits):
         """`closed` are standard streams that a shell closes first, as `1>&-`; `limits` go to the process."""
         self.port = common.free_port()
         words = ["serve", *["--existing"] * existing, "--db", path, "--port", str(self.port)]
         words += ["--connections", str(connections), *office_of(society)]
+        words += [] if patience is None else ["--patience", str(patience)]
         pipes = {"stdin": subprocess.DEVNULL, "stdout": subprocess.PIPE, "stderr": subprocess.PIPE}
         if closed:
             started = {"args": ["sh", "-c", f'exec "$0" "$@" {closed}', program, *words]}

@@ -1,19 +1,59 @@
--- What lines that spell orders are answered.
-use Rattle.std.specs.Prelude.{ℕ, ◌≡◌, ◌⊎◌, List, Option, Result, Err, Vec}
+-- What lines that spell orders are answered, and how that is told.
+use Rattle.std.specs.Prelude.{ℕ, ◌≡◌, ◌+◌, Bool, true, List, [], ◌∷◌, Option, Result, Ok, Err, Vec}
 use Rattle.std.specs.BTreeSet.{BTreeSet}
+use Rattle.std.specs.Io.KnownBytes.{Appends}
 use Rattle.std.specs.declared.alloc.Global.{Global}
+use Rattle.csv.specs.Writing.{default_writer, row_text}
+use Rattle.desk_connections.specs.Connections.{Prints}
+use Rattle.http_desk.specs.Counted.{inner_of}
+use Rattle.http_desk.specs.declared.counted.Counted.{Counted}
 use Rattle.share_rules.specs.declared.office.Office.{Office}
 use Rattle.society_book.specs.Shown.{ByOwnBook}
-use Rattle.society_core.specs.Orders.{Order}
 use Rattle.society_core.specs.declared.order_fault.OrderFault.{OrderFault}
 use Rattle.society_core.specs.declared.refusal.Refusal.{Refusal}
 use Rattle.society_core.specs.declared.refusal.Refusal.TheVariants as refusals
 use Rattle.sqlite_trees.specs.Tree.{Trees}
 use Rattle.order_credits.specs.Refused.{credit_answer, listed}
 use Rattle.order_credits.specs.declared.share.RecordingShare.{RecordingShare}
+use Rattle.credit_listing.specs.Rows.{listing_columns, shares_text}
+use Rattle.credit_listing.specs.Spelled.{AreWanted, Spelled, order_on_line}
+use Rattle.credit_listing.specs.Told.{refusal_line}
 
--- an answer is that of an order, of the recordings that are wanted of it, by every book of the office that the tables hold; or tells of a fault of the line
-abbrev pub AnswersLine : Office → Trees → Result (Vec RecordingShare Global) Refusal → Type 0
-AnswersLine office db answer =
-    ((order : Order) × (wanted : Option (BTreeSet (List ℕ))) × ByOwnBook office (λ book told. listed told ≡ credit_answer office book order wanted) db answer)
-    ⊎ ((fault : OrderFault) × (answer ≡ Err (refusals.Order fault)))
+-- the shares of an order, or why it is not answered
+abbrev pub Answer : Type 0
+Answer = Result (Vec RecordingShare Global) Refusal
+
+-- an answer to what a line spells: what the order would credit of the recordings that are wanted, by every book of the office that the tables
+-- hold; or the fault of the line
+abbrev pub AnswersSpelled : Office → Trees → Result Spelled OrderFault → Answer → Type 0
+AnswersSpelled office db (Err fault) answer = answer ≡ Err (refusals.Order fault)
+AnswersSpelled office db (Ok spelled) answer =
+    (wanted : Option (BTreeSet (List ℕ))) × AreWanted spelled.1 wanted
+    × ByOwnBook office (λ book told. listed told ≡ credit_answer office book spelled.0 wanted) db answer
+
+-- an answer to a line
+abbrev pub AnswersLine : Office → List ℕ → Trees → Answer → Type 0
+AnswersLine office line db answer = AnswersSpelled office db (order_on_line line) answer
+
+-- what is written of the answer to the order of this number: its rows where it is answered, else the line that says why not, elsewhere
+abbrev pub TellsAnswer : {W E : Type 0} → (W → Option (List ℕ)) → Counted W → Counted W → (E → Option (List ℕ)) → Counted E → Counted E → ℕ → Answer → Type 0
+TellsAnswer contents out new_out says err new_err number (Ok shares) =
+    Appends (contents (inner_of out)) (contents (inner_of new_out)) (shares_text number shares.items) × (new_err ≡ err)
+TellsAnswer contents out new_out says err new_err number (Err refusal) = (new_out ≡ out) × Prints says err new_err (refusal_line number refusal)
+
+-- lines were answered by tables, one after another, from this number on, and each answer was told
+abbrev pub TellsLines : {W E : Type 0} → Office → Trees → (W → Option (List ℕ)) → (E → Option (List ℕ)) → ℕ → List (List ℕ) → Counted W → Counted W → Counted E → Counted E
+    → Type 0
+TellsLines office db contents says number [] out new_out err new_err = (new_out ≡ out) × (new_err ≡ err)
+TellsLines {W = W} {E = E} office db contents says number (line ∷ lines) out new_out err new_err =
+    (answer : Answer) × (between_out : Counted W) × (between_err : Counted E) × AnswersLine office line db answer
+    × TellsAnswer contents out between_out says err between_err number answer × TellsLines office db contents says (number + 1) lines between_out new_out between_err new_err
+
+-- the columns were written, and then lines were answered by tables and told; where each was answered by rows, nothing was said elsewhere
+pub record ListsCredits {W E : Type 0} (office : Office) (contents : W → Option (List ℕ)) (says : E → Option (List ℕ)) (out new_out : Counted W) (err new_err : Counted E)
+    (db : Trees) (all : Bool) : Type 0 where
+  pub lines : List (List ℕ)
+  pub begun : Counted W
+  pub columns : Appends (contents (inner_of out)) (contents (inner_of begun)) (row_text default_writer listing_columns)
+  pub told : TellsLines office db contents says 1 lines begun new_out err new_err
+  pub rows : all ≡ true → new_err ≡ err

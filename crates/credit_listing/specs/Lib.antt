@@ -1,1 +1,5 @@
 pub mod Answered
+pub mod Listed
+pub mod Rows
+pub mod Spelled
+pub mod Told

@@ -18,7 +18,7 @@ pub(crate) fn answer_line<S: Alter>(
     office: &Office,
     line: &[u8],
 ) -> Result<Result<Vec<RecordingShare>, Refusal>, RowFault>
-    ensures looks { Within S.Store tx.old tx.new Looks result (λ db answer. AnswersLine office.now db answer) }
+    ensures looks { Within S.Store tx.old tx.new Looks result (AnswersLine office.now line.now) }
 {
     match order_in(alloc, line)? {
         Ok(asked) => credit_order(alloc, tx, office, &asked.order, asked.wanted.as_ref()),

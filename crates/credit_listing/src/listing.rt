@@ -1,7 +1,11 @@
 //! What orders would credit, listed.
-ghost use Rattle.std.specs.Prelude.{◌≡◌, ◌<◌, ◌≤◌, ⊤, IfOk, Ok, true};
+ghost use Rattle.std.specs.Prelude.{◌≡◌, IfOk, Ok, OnOk, is_ok, true};
+ghost use Rattle.std.specs.Io.KnownBytes.{Appends};
+ghost use Rattle.http_desk.specs.Counted.{inner_of};
 ghost use Rattle.society_book.specs.Steps.{Looks};
 ghost use Rattle.society_rows.specs.Between.{Within};
+ghost use Rattle.credit_listing.specs.Answered.{ListsCredits, TellsAnswer};
+ghost use Rattle.credit_listing.specs.Rows.{shares_text};
 
 use crate::answering::answer_line;
 use crate::lines::next_line;
@@ -25,7 +29,9 @@ fn write_rows<W: Write>(
     number: u64,
     shares: &[RecordingShare],
     out: &mut Counted<W>,
-) -> Result<(), FaultKind> {
+) -> Result<(), FaultKind>
+    ensures { OnOk result (Appends (W.contents (inner_of out.old)) (W.contents (inner_of out.new)) (shares_text number shares.now)) }
+{
     let Ok(text) = rows_text(alloc, number, shares) else {
         return Err(FaultKind::Memory);
     };
@@ -43,6 +49,8 @@ fn write_answer<W: Write, E: Write>(
     out: &mut Counted<W>,
     err: &mut Counted<E>,
 ) -> Result<bool, FaultKind>
+    ensures tells { OnOk result (TellsAnswer W.contents out.old out.new E.contents err.old err.new number answer) }
+    ensures rows { IfOk result (λ rows. rows ≡ is_ok answer) }
     ensures quiet { result ≡ Ok true → err.new ≡ err.old }
 {
     match answer {
@@ -68,7 +76,8 @@ pub fn list_credits<S: Alter, R: Read, W: Write, E: Write>(
     out: &mut Counted<W>,
     err: &mut Counted<E>,
 ) -> Result<Result<bool, DeskFault>, RowFault>
-    ensures looks { Within S.Store tx.old tx.new Looks result (λ db _. ⊤) }
+    ensures looks { Within S.Store tx.old tx.new Looks result
+        (λ db listed. IfOk listed (ListsCredits office.now W.contents E.contents out.old out.new err.old err.new db)) }
     ensures quiet { IfOk result (λ listed. listed ≡ Ok true → err.new ≡ err.old) }
 {
     let (Ok(columns), Ok(mut input)) = (columns_text(alloc), Input::new(alloc, READS)) else {

@@ -1,4 +1,12 @@
 //! What orders would credit, as rows (RFC 4180; the columns: profile).
+ghost use Rattle.std.specs.Prelude.{◌≡◌, Some, IfOk, OnOk};
+ghost use Rattle.std.specs.Io.KnownBytes.{Keeps};
+ghost use Rattle.csv.specs.Writing.{default_writer, row_text, text_written};
+ghost use Rattle.http_text.specs.Rows.{AddsRow};
+ghost use Rattle.http_text.specs.Table.{isrc_field};
+ghost use Rattle.credit_listing.specs.Listed.{AddsRows};
+ghost use Rattle.credit_listing.specs.Rows.{holder_row, listing_columns, share_rows, share_rows_by, shares_text, unowned_row};
+
 use csv::{Writer, WriterBuilder};
 use http_text::{put_row, set_account};
 use itoa::Buffer;
@@ -8,7 +16,9 @@ use std::alloc::{AllocError, Global};
 use work_ids::{Account, Isrc};
 
 // What was written by a writer of rows.
-fn text_of(table: Writer<Vec<u8>>) -> Result<Vec<u8>, AllocError> {
+fn text_of(table: Writer<Vec<u8>>) -> Result<Vec<u8>, AllocError>
+    ensures { IfOk result (λ text. Keeps (text_written (λ out. Some out.items) table) (Some text.items)) }
+{
     match table.into_inner() {
         Ok(text) => Ok(text),
         Err(_) => Err(AllocError),
@@ -16,7 +26,9 @@ fn text_of(table: Writer<Vec<u8>>) -> Result<Vec<u8>, AllocError> {
 }
 
 /// The row that names the columns.
-pub(crate) fn columns_text(alloc: Global) -> Result<Vec<u8>, AllocError> {
+pub(crate) fn columns_text(alloc: Global) -> Result<Vec<u8>, AllocError>
+    ensures { IfOk result (λ text. text.items ≡ row_text default_writer listing_columns) }
+{
     let mut table = WriterBuilder::new().from_writer(Vec::new(alloc));
     put_row(
         &mut table,
@@ -38,7 +50,9 @@ pub(crate) fn columns_text(alloc: Global) -> Result<Vec<u8>, AllocError> {
 }
 
 // The twelve characters of an ISRC, or a hyphen.
-fn isrc_text(isrc: &Option<Isrc>) -> &[u8] {
+fn isrc_text(isrc: &Option<Isrc>) -> &[u8]
+    ensures { result.now ≡ isrc_field isrc.now }
+{
     match isrc {
         Some(isrc) => isrc.as_bytes(),
         None => b"-",
@@ -51,7 +65,9 @@ fn put_unowned(
     scratch: &mut Vec<u8>,
     number: u64,
     share: &RecordingShare,
-) -> Result<(), AllocError> {
+) -> Result<(), AllocError>
+    ensures { OnOk result (AddsRow table.old table.new (unowned_row number share.now)) }
+{
     set_account(scratch, &Account::Unclaimed)?;
     let blank: [u8; 0] = [];
     let mut order = Buffer::new();
@@ -86,7 +102,9 @@ fn put_holder(
     owner: &OwnedVersion,
     holder: &Holder,
     part: u64,
-) -> Result<(), AllocError> {
+) -> Result<(), AllocError>
+    ensures { OnOk result (AddsRow table.old table.new (holder_row number share.now owner.now (holder.now, part))) }
+{
     set_account(scratch, &holder.account)?;
     let mut order = Buffer::new();
     let mut points = Buffer::new();
@@ -120,7 +138,9 @@ fn put_owned(
     number: u64,
     share: &RecordingShare,
     owner: &OwnedVersion,
-) -> Result<(), AllocError> {
+) -> Result<(), AllocError>
+    ensures { OnOk result (AddsRows table.old table.new (share_rows_by number share.now (Some owner.now))) }
+{
     let holders = owner.holders.as_slice();
     for (holder, part) in holders.iter().zip(share.parts.as_slice().iter()) {
         put_holder(table, scratch, number, share, owner, holder, *part)?;
@@ -134,7 +154,9 @@ fn put_share(
     scratch: &mut Vec<u8>,
     number: u64,
     share: &RecordingShare,
-) -> Result<(), AllocError> {
+) -> Result<(), AllocError>
+    ensures { OnOk result (AddsRows table.old table.new (share_rows number share.now)) }
+{
     match &share.owner {
         Some(owner) => put_owned(table, scratch, number, share, owner),
         None => put_unowned(table, scratch, number, share),
@@ -146,7 +168,9 @@ pub(crate) fn rows_text(
     alloc: Global,
     number: u64,
     shares: &[RecordingShare],
-) -> Result<Vec<u8>, AllocError> {
+) -> Result<Vec<u8>, AllocError>
+    ensures { IfOk result (λ text. text.items ≡ shares_text number shares.now) }
+{
     let mut table = WriterBuilder::new().from_writer(Vec::new(alloc));
     let mut scratch = Vec::new(alloc);
     for share in shares {

@@ -29,14 +29,18 @@ abbrev pub IsGivenUpSo : {D R V S : Type 0} → Ways D R V → (S → State) →
 IsGivenUpSo ways state desk new_desk reader new_reader writer new_writer c fault =
     (is : IsGivenUp state ways.sent ways.given desk new_desk reader new_reader writer new_writer most_turns fault) × (is.breaks.parts ≡ c.parts) × (is.breaks.replies ≡ c.replies)
 
--- A connection was served from its two ways as they came in: it brought these requests, as many as it tells, they were read from what its
--- peer sent and answered in turn, each by a call that led the store on, and their answers went to that peer; a fault is told as what it was.
-pub record ServesOne {D R V S : Type 0} (ways : Ways D R V) (state : S → State) (desk new_desk : S) (c : Connection R V) : Type 0 where
+-- A connection came in by a door and was served from its two ways as they came in: it brought these requests, as many as it tells, they were
+-- read from what its peer sent and answered in turn, each by a call that led the store on, and their answers went to that peer; a fault is
+-- told as what it was. The door took the two ways back as the serving left them, so nothing else was read of them or written to them.
+pub record ServesOne {D R V S : Type 0} (ways : Ways D R V) (state : S → State) (desk new_desk : S) (door new_door : D) (c : Connection R V) : Type 0 where
+  pub open_door : D
   pub reader : Counted R
   pub new_reader : Counted R
   pub writer : Counted V
   pub new_writer : Counted V
+  pub admitted : ways.doors.admits door c.sent c.given open_door
   pub begins : (inner_of reader ≡ c.sent) × (inner_of writer ≡ c.given)
+  pub parted : ways.doors.parts open_door (inner_of new_reader) (inner_of new_writer) new_door
   pub served : IfOk c.outcome (IsServedSo ways state desk new_desk reader writer new_writer c)
   pub given_up : IfErr c.outcome (IsGivenUpSo ways state desk new_desk reader new_reader writer new_writer c)
   pub kept : OnOk c.outcome (NeitherFails reader new_reader writer new_writer)
@@ -47,14 +51,14 @@ pub record ServesOne {D R V S : Type 0} (ways : Ways D R V) (state : S → State
 -- the next connection came in by a door and was served to this
 abbrev pub ServesNext : {D R V S : Type 0} → Ways D R V → (S → State) → S → S → D → D → Result Served DeskFault → Type 0
 ServesNext {R = R} {V = V} ways state desk new_desk door new_door outcome =
-    (c : Connection R V) × (c.outcome ≡ outcome) × ServesOne ways state desk new_desk c × HasAdmitted ways new_door (ways.doors.accepted door + 1) (ways.doors.has_failed door)
+    (c : Connection R V) × (c.outcome ≡ outcome) × ServesOne ways state desk new_desk door new_door c × HasAdmitted ways new_door (ways.doors.accepted door + 1) (ways.doors.has_failed door)
     × (ways.doors.sent_by c.sent ≡ ways.doors.accepted door + 1) × (ways.doors.given_to c.given ≡ ways.doors.accepted door + 1)
 
--- connections were served one after another
-abbrev pub ServesEach : {D R V S : Type 0} → Ways D R V → (S → State) → List (Connection R V) → S → S → Type 0
-ServesEach ways state [] desk new_desk = new_desk ≡ desk
-ServesEach {S = S} ways state (c ∷ connections) desk new_desk =
-    (middle : S) × ServesOne ways state desk middle c × ServesEach ways state connections middle new_desk
+-- connections were served one after another, each from where the one before had left the store and the door
+abbrev pub ServesEach : {D R V S : Type 0} → Ways D R V → (S → State) → List (Connection R V) → S → S → D → D → Type 0
+ServesEach ways state [] desk new_desk door new_door = (new_desk ≡ desk) × (new_door ≡ door)
+ServesEach {D = D} {S = S} ways state (c ∷ connections) desk new_desk door new_door =
+    (middle : S) × (between : D) × ServesOne ways state desk middle door between c × ServesEach ways state connections middle new_desk between new_door
 
 -- what a connection came to tells how many requests it brought
 abbrev pub IsCounted : {R V : Type 0} → Connection R V → Type 0
@@ -88,13 +92,13 @@ Prints contents out new_out bytes =
     Rises (failures_of out) (failures_of new_out)
     ⊎ ((failures_of new_out ≡ failures_of out) × Appends (contents (inner_of out)) (contents (inner_of new_out)) bytes)
 
--- so many connections, those that came in one after another behind those that had come in by a door, were served in turn: their requests
--- were answered in turn, and a line was printed for each
-pub record ServesConnections {D R V S W : Type 0} (ways : Ways D R V) (state : S → State) (desk new_desk : S) (contents : W → Option (List ℕ)) (out new_out : Counted W) (door : D) (count : ℕ) : Type 0 where
+-- so many connections, those that came in one after another behind those that had come in by a door, were served in turn, and the door is
+-- left as the last one left it: their requests were answered in turn, and a line was printed for each
+pub record ServesConnections {D R V S W : Type 0} (ways : Ways D R V) (state : S → State) (desk new_desk : S) (contents : W → Option (List ℕ)) (out new_out : Counted W) (door new_door : D) (count : ℕ) : Type 0 where
   pub connections : List (Connection R V)
   pub number : length connections ≡ count
   pub numbered : ComeInOrder ways (ways.doors.accepted door + 1) connections
-  pub each : ServesEach ways state connections desk new_desk
+  pub each : ServesEach ways state connections desk new_desk door new_door
   pub counted : AllByRecursion IsCounted connections
   pub answers : AreAnswered state (parts_brought connections) (replies_given connections) desk new_desk
   pub printed : Prints contents out new_out (connection_lines 1 connections)
@@ -103,7 +107,8 @@ pub record ServesConnections {D R V S W : Type 0} (ways : Ways D R V) (state : S
 abbrev pub AdmitsMore : {D R V : Type 0} → Ways D R V → D → D → ℕ → Bool → Type 0
 AdmitsMore ways door new_door count failed = HasAdmitted ways new_door (ways.doors.accepted door + count) failed
 
--- fewer connections than were asked for were served, since one could not be accepted at the door
+-- fewer connections than were asked for were served, since one could not be accepted at the door as the last of them had left it
 abbrev pub StopsEarly : {D R V S W : Type 0} → Ways D R V → (S → State) → S → S → (W → Option (List ℕ)) → Counted W → Counted W → D → D → ℕ → Type 0
 StopsEarly ways state desk new_desk contents out new_out door new_door connections =
-    (count : ℕ) × (count < connections) × ServesConnections ways state desk new_desk contents out new_out door count × AdmitsMore ways door new_door count true
+    (count : ℕ) × (count < connections)
+    × ((last : _) × ServesConnections ways state desk new_desk contents out new_out door last count) × AdmitsMore ways door new_door count true

@@ -38,13 +38,13 @@ HasAdmitted ways door count failed = (ways.doors.accepted door ≡ count) × (wa
 abbrev pub IsLoopback : ℕ → SocketAddrV4 → Type 0
 IsLoopback port address = (ipv4_octets (v4_ip address) ≡ 127 ∷ 0 ∷ 0 ∷ 1 ∷ []) × (v4_port address ≡ port)
 
--- so many connections came in by one door, at this port of this machine alone, and this is whether one could not be accepted
-pub record CameIn {N D R V : Type 0} (net : Network N D R V) (port count : ℕ) (failed : Bool) : Type 0 where
+-- a door, as it was when something began to listen by it at this port of this machine alone, and as it was when so many connections had come
+-- in, and this is whether one could not be accepted; it has so many seconds of patience
+pub record CameIn {N D R V : Type 0} (net : Network N D R V) (port patience count : ℕ) (failed : Bool) (door ended : D) : Type 0 where
   pub address : SocketAddrV4
-  pub door : D
-  pub ended : D
   pub is_here : IsLoopback port address
   pub listens : net.listens.listens_at address door
+  pub patient : net.ways.doors.patience door ≡ patience
   pub admitted : HasAdmitted net.ways ended count failed
 
 -- a connection: its two ways as it came in, the requests that it brought, their answers, and what it came to

@@ -22,7 +22,7 @@ pub fn serve_connections<D: Door, S: Store, W: Write>(
     out: &mut Counted<W>,
 ) -> Result<(), AcceptFault>
     ensures served { OnOk result (ServesConnections (ways_by D.Door D.Sent.Read.remaining D.Given.Write.contents)
-        S.state desk.old desk.new W.contents out.old out.new door.old connections) }
+        S.state desk.old desk.new W.contents out.old out.new door.old door.new connections) }
     ensures admitted { OnOk result (AdmitsMore (ways_by D.Door D.Sent.Read.remaining D.Given.Write.contents)
         door.old door.new connections (D.Door.has_failed door.old)) }
     ensures err { OnErr result (StopsEarly (ways_by D.Door D.Sent.Read.remaining D.Given.Write.contents)

@@ -3,9 +3,14 @@
 //! at a path; `society audit --db PATH` and the same tells whether that database is sound; `--help` tells of these.
 #![tactic(auto)]
 
+mod machine;
+mod streams;
+
+use crate::machine::ThisMachine;
+use crate::streams::{StandardStreams, without_streams};
 use http_desk::Counted;
 use society_commands::{NoWords, exit_status, start, why_no_words};
-use society_host::{Host, HostFiles, StandardStreams, without_streams};
+use society_host::{Host, HostFiles};
 use sqlite::Wary;
 use std::env;
 use std::process::ExitCode;
@@ -38,9 +43,10 @@ fn run(rt: &HostRuntime) -> u8 {
     let mut out = Counted::new(rt.stdout());
     let mut err = Counted::new(rt.stderr());
     // A torn write may leave any bytes: nothing more is supposed of the files.
-    let (outcome, left) = start(
-        Host::new(rt),
-        HostFiles::new(rt, Wary, Host::new(rt)),
+    let machine = ThisMachine::new(rt);
+    let (outcome, left, listened) = start(
+        Host::new(machine),
+        HostFiles::new(machine, Wary),
         alloc,
         words.as_slice(),
         &mut reader,
@@ -48,5 +54,6 @@ fn run(rt: &HostRuntime) -> u8 {
         &mut err,
     );
     drop(left);
+    drop(listened);
     exit_status(outcome, &mut err)
 }

@@ -101,11 +101,11 @@ no_help_command : asked (codes "society" ∷ codes "help" ∷ []) ≡ HasBadWord
 unfolding clap_on_literals
 no_help_command = refl
 
-serve : asked (codes "society" ∷ codes "serve" ∷ codes "--db" ∷ codes "office.db" ∷ codes "--port" ∷ codes "8080" ∷ codes "--connections" ∷ codes "1000000" ∷ codes "--society" ∷ codes "900" ∷ codes "--territory" ∷ codes "40" ∷ codes "--name" ∷ codes "X" ∷ []) ≡ AsksServe (codes "office.db") false (record { port = 8080; connections = 1000000 }) 900 40 (codes "X")
+serve : asked (codes "society" ∷ codes "serve" ∷ codes "--db" ∷ codes "office.db" ∷ codes "--port" ∷ codes "8080" ∷ codes "--connections" ∷ codes "1000000" ∷ codes "--society" ∷ codes "900" ∷ codes "--territory" ∷ codes "40" ∷ codes "--name" ∷ codes "X" ∷ []) ≡ AsksServe (codes "office.db") false (record { port = 8080; connections = 1000000; patience = 300 }) 900 40 (codes "X")
 unfolding clap_on_literals
 serve = refl
 
-serve_turned : asked (codes "society" ∷ codes "serve" ∷ codes "--name" ∷ codes "X" ∷ codes "--connections" ∷ codes "7" ∷ codes "--society" ∷ codes "900" ∷ codes "--port" ∷ codes "65535" ∷ codes "--db=office.db" ∷ codes "--territory" ∷ codes "40" ∷ []) ≡ AsksServe (codes "office.db") false (record { port = 65535; connections = 7 }) 900 40 (codes "X")
+serve_turned : asked (codes "society" ∷ codes "serve" ∷ codes "--name" ∷ codes "X" ∷ codes "--connections" ∷ codes "7" ∷ codes "--society" ∷ codes "900" ∷ codes "--port" ∷ codes "65535" ∷ codes "--db=office.db" ∷ codes "--territory" ∷ codes "40" ∷ []) ≡ AsksServe (codes "office.db") false (record { port = 65535; connections = 7; patience = 300 }) 900 40 (codes "X")
 unfolding clap_on_literals
 serve_turned = refl
 
@@ -141,11 +141,19 @@ replay_over_a_database : asked (codes "society" ∷ codes "replay" ∷ codes "--
 unfolding clap_on_literals
 replay_over_a_database = refl
 
-serve_existing : asked (codes "society" ∷ codes "serve" ∷ codes "--existing" ∷ codes "--db" ∷ codes "office.db" ∷ codes "--port" ∷ codes "8080" ∷ codes "--connections" ∷ codes "1" ∷ codes "--society" ∷ codes "900" ∷ codes "--territory" ∷ codes "40" ∷ codes "--name" ∷ codes "X" ∷ []) ≡ AsksServe (codes "office.db") true (record { port = 8080; connections = 1 }) 900 40 (codes "X")
+serve_existing : asked (codes "society" ∷ codes "serve" ∷ codes "--existing" ∷ codes "--db" ∷ codes "office.db" ∷ codes "--port" ∷ codes "8080" ∷ codes "--connections" ∷ codes "1" ∷ codes "--society" ∷ codes "900" ∷ codes "--territory" ∷ codes "40" ∷ codes "--name" ∷ codes "X" ∷ []) ≡ AsksServe (codes "office.db") true (record { port = 8080; connections = 1; patience = 300 }) 900 40 (codes "X")
 unfolding clap_on_literals
 serve_existing = refl
 
-serve_existing_behind : asked (codes "society" ∷ codes "serve" ∷ codes "--db" ∷ codes "office.db" ∷ codes "--port" ∷ codes "8080" ∷ codes "--connections" ∷ codes "1" ∷ codes "--society" ∷ codes "900" ∷ codes "--territory" ∷ codes "40" ∷ codes "--name" ∷ codes "X" ∷ codes "--existing" ∷ []) ≡ AsksServe (codes "office.db") true (record { port = 8080; connections = 1 }) 900 40 (codes "X")
+serve_patient : asked (codes "society" ∷ codes "serve" ∷ codes "--db" ∷ codes "office.db" ∷ codes "--port" ∷ codes "8080" ∷ codes "--patience" ∷ codes "20" ∷ codes "--connections" ∷ codes "1" ∷ codes "--society" ∷ codes "900" ∷ codes "--territory" ∷ codes "40" ∷ codes "--name" ∷ codes "X" ∷ []) ≡ AsksServe (codes "office.db") false (record { port = 8080; connections = 1; patience = 20 }) 900 40 (codes "X")
+unfolding clap_on_literals
+serve_patient = refl
+
+no_patience : asked (codes "society" ∷ codes "serve" ∷ codes "--db" ∷ codes "office.db" ∷ codes "--port" ∷ codes "8080" ∷ codes "--patience" ∷ codes "0" ∷ codes "--connections" ∷ codes "1" ∷ codes "--society" ∷ codes "900" ∷ codes "--territory" ∷ codes "40" ∷ codes "--name" ∷ codes "X" ∷ []) ≡ HasBadWords
+unfolding clap_on_literals
+no_patience = refl
+
+serve_existing_behind : asked (codes "society" ∷ codes "serve" ∷ codes "--db" ∷ codes "office.db" ∷ codes "--port" ∷ codes "8080" ∷ codes "--connections" ∷ codes "1" ∷ codes "--society" ∷ codes "900" ∷ codes "--territory" ∷ codes "40" ∷ codes "--name" ∷ codes "X" ∷ codes "--existing" ∷ []) ≡ AsksServe (codes "office.db") true (record { port = 8080; connections = 1; patience = 300 }) 900 40 (codes "X")
 unfolding clap_on_literals
 serve_existing_behind = refl
 

@@ -18,6 +18,14 @@ required_option name = record (new_rule name) {
 abbrev pub number_option : Text → ℕ → ℕ → Rule
 number_option name least most = record (required_option name) { parser = Some (parser.Signed (pos least) (pos most)) }
 
+-- an option `--name VALUE` that may be given, once, with one value
+abbrev pub free_option : Text → Rule
+free_option name = record (new_rule name) { long = Some name; action = Some Set; value_names = 1 }
+
+-- such an option whose value is a whole number within these limits
+abbrev pub free_number_option : Text → ℕ → ℕ → Rule
+free_number_option name least most = record (free_option name) { parser = Some (parser.Signed (pos least) (pos most)) }
+
 -- an option `--name` without a value that may be given, once
 abbrev pub flag : Text → Rule
 flag name = record (new_rule name) { long = Some name; action = Some SetTrue }
@@ -39,9 +47,13 @@ over_database name = with_rule (new_app name) (required_option (codes "db"))
 abbrev pub with_place : App → App
 with_place command = with_rule (with_rule command (number_option (codes "port") 1 65535)) (number_option (codes "connections") 1 1000000)
 
--- `serve`, with the path of a database, whether it must be there already, a place and an office (profile)
+-- the command with a patience of 1 to 86,400 seconds, which may be given
+abbrev pub with_patience : App → App
+with_patience command = with_rule command (free_number_option (codes "patience") 1 86400)
+
+-- `serve`, with the path of a database, whether it must be there already, a place, a patience and an office (profile)
 abbrev pub serve_command : App
-serve_command = with_office (with_place (with_rule (over_database (codes "serve")) (flag (codes "existing"))))
+serve_command = with_office (with_patience (with_place (with_rule (over_database (codes "serve")) (flag (codes "existing")))))
 
 -- `audit`, with the path of a database, and an office (profile)
 abbrev pub audit_command : App

@@ -1,5 +1,5 @@
 -- What the program's words ask for.
-use Rattle.std.specs.Prelude.{String, map, string_bytes, ◌≡◌, ◌≢◌, ◌⊎◌, ◌^◌, ℕ, Bool, ◌&&◌, List, [], ◌∷◌, Option, Some, None, bytes_eq, codes, if◌then◌else◌, nat_lt, option_and_then, true, false, Result, IfOk}
+use Rattle.std.specs.Prelude.{String, map, string_bytes, ◌≡◌, ◌≢◌, ◌⊎◌, ◌^◌, ℕ, Bool, ◌&&◌, List, [], ◌∷◌, Option, Some, None, bytes_eq, codes, if◌then◌else◌, nat_lt, option_and_then, true, false, Result, IfOk, unwrap_or}
 use Rattle.std.specs.Option.{option_map_or}
 use Rattle.std.specs.List.{list_any}
 use Rattle.std.specs.Str.Parse.{digits_value, without_leading_plus}
@@ -53,15 +53,19 @@ asked_at None territory name = HasBadWords
 abbrev pub asked_office : List Row → Asked
 asked_office rows = asked_at (number_given 16 (codes "society") rows) (number_given 16 (codes "territory") rows) (first_of (codes "name") rows)
 
--- the place with a port and a count of connections
-abbrev pub place_at : Option ℕ → Option ℕ → Option Listening
-place_at (Some port) (Some connections) = Some (record { port = port; connections = connections })
-place_at (Some port) None = None
-place_at None connections = None
+-- the place with a port, a count of connections, and a patience in seconds
+abbrev pub place_at : Option ℕ → Option ℕ → ℕ → Option Listening
+place_at (Some port) (Some connections) patience = Some (record { port = port; connections = connections; patience = patience })
+place_at (Some port) None patience = None
+place_at None connections patience = None
+
+-- the patience in seconds that options give, 300 where they give none (profile)
+abbrev pub patience_given : List Row → ℕ
+patience_given rows = unwrap_or (number_given 32 (codes "patience") rows) 300
 
 -- the place that options name
 abbrev pub place_given : List Row → Option Listening
-place_given rows = place_at (number_given 16 (codes "port") rows) (number_given 32 (codes "connections") rows)
+place_given rows = place_at (number_given 16 (codes "port") rows) (number_given 32 (codes "connections") rows) (patience_given rows)
 
 -- where options name an office, what they ask for there; else what is wrong
 abbrev pub at_office : (ℕ → ℕ → Text → Asked) → Asked → Asked

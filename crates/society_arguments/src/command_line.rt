@@ -2,7 +2,7 @@
 ghost use Rattle.std.specs.Prelude.{◌≡◌, IfOk, false};
 ghost use Rattle.clap.specs.Words.{app_of, rule_of};
 ghost use Rattle.clap.specs.declared.builder.command.Command.TheViews.{out-Command as fields_of};
-ghost use Rattle.society_arguments.specs.CommandLine.{audit_command, command_line, credit_command, flag, over_database, replay_command, required_option, serve_command, with_office, with_place};
+ghost use Rattle.society_arguments.specs.CommandLine.{audit_command, command_line, credit_command, flag, free_option, over_database, replay_command, required_option, serve_command, with_office, with_patience, with_place};
 
 use clap::{Arg, ArgAction, Command, value_parser};
 use std::alloc::{AllocError, Global};
@@ -18,6 +18,9 @@ const MAX_PORT: i64 = 65_535;
 
 /// Most connections of one run.
 const MAX_CONNECTIONS: i64 = 1_000_000;
+
+/// Longest patience with a connection, in seconds: a day.
+const MAX_PATIENCE: i64 = 86_400;
 
 /// The command line of the program: `replay`, `serve`, `audit` or `credit`, each with its options in any order.
 pub fn command_line<'a>(alloc: Global) -> Result<Command<'a>, AllocError>
@@ -54,7 +57,8 @@ fn serve_command<'a>(alloc: Global) -> Result<Command<'a>, AllocError>
         "File of the office's database, made where there is none",
     )?;
     let existing = flag(alloc, "existing").help("Serve only a file that holds an office already");
-    with_office(alloc, with_place(alloc, command.arg(existing)?)?)
+    let command = with_place(alloc, command.arg(existing)?)?;
+    with_office(alloc, with_patience(alloc, command)?)
 }
 
 // Tells whether a database is sound.
@@ -110,6 +114,19 @@ fn with_place<'a>(alloc: Global, command: Command<'a>) -> Result<Command<'a>, Al
     command.arg(port)?.arg(connections)
 }
 
+// The command with the option that says for how long a connection's peer is waited for.
+fn with_patience<'a>(alloc: Global, command: Command<'a>) -> Result<Command<'a>, AllocError>
+    ensures { IfOk result (λ r. (app_of r ≡ with_patience (app_of command.entry))
+        × ((fields_of r).has_globals ≡ (fields_of command.entry).has_globals)) }
+{
+    let patience = free_option(alloc, "patience", "SECONDS")
+        .value_parser(value_parser!(u32).range(1..=MAX_PATIENCE))
+        .help(
+            "Longest wait for a peer in all, and again for each MiB that moves, 1 to 86400, else 300",
+        );
+    command.arg(patience)
+}
+
 // The command with the options that name an office.
 fn with_office<'a>(alloc: Global, command: Command<'a>) -> Result<Command<'a>, AllocError>
     ensures { IfOk result (λ r. (app_of r ≡ with_office (app_of command.entry))
@@ -137,6 +154,17 @@ fn required_option<'a>(alloc: Global, name: &'a str, value: &'a str) -> Arg<'a>
         .value_name(value)
         .action(ArgAction::Set)
         .required(true)
+}
+
+// An option that may be given once, with one value.
+fn free_option<'a>(alloc: Global, name: &'a str, value: &'a str) -> Arg<'a>
+    ensures rule { rule_of result ≡ free_option name.entry.now }
+    ensures local { result.global ≡ false }
+{
+    Arg::new(alloc, name)
+        .long(name)
+        .value_name(value)
+        .action(ArgAction::Set)
 }
 
 // An option without a value, which may be given once.

@@ -1,7 +1,7 @@
 //! What the program's arguments ask for, as `clap` has read them.
 ghost use Rattle.std.specs.Prelude.{◌≡◌, IfErr, IfOk, Some, map, string_bytes};
 ghost use Rattle.clap.specs.Words.{found_of, kind_of, rows_of};
-ghost use Rattle.society_arguments.specs.Words.{Asked, IsReadAs, IsRefusedAs, asked, asked_at, asked_audit, asked_command, asked_credit, asked_office, asked_serve, auditing, crediting, flag_given, number_given, place_given, serving};
+ghost use Rattle.society_arguments.specs.Words.{Asked, IsReadAs, IsRefusedAs, asked, asked_at, asked_audit, asked_command, asked_credit, asked_office, asked_serve, auditing, crediting, flag_given, number_given, patience_given, place_given, serving};
 
 use crate::command_line::command_line;
 use clap::{ArgMatches, Error};
@@ -15,7 +15,12 @@ pub struct Listening {
     pub port: u16,
     /// How many connections it serves.
     pub connections: u32,
+    /// How many seconds it waits for the peer of a connection in all, and as many more for each MiB that moves.
+    pub patience: u32,
 }
+
+/// Seconds of patience where none are given: at 4,000 bytes a second a body of 1 MiB passes.
+const USUAL_PATIENCE: u32 = 300;
 
 /// Which database is served.
 #[derive(Clone, Copy, Debug)]
@@ -93,13 +98,28 @@ fn office_in<'a>(options: &ArgMatches<'_>) -> Words<'a>
     replay_at(society, territory, name)
 }
 
+/// The patience that options give, or the usual one.
+fn patience_in(options: &ArgMatches<'_>) -> u32
+    ensures { result ≡ patience_given (rows_of (found_of options.now)) }
+{
+    match long_number(options, "patience") {
+        Some(seconds) => seconds,
+        None => USUAL_PATIENCE,
+    }
+}
+
 /// The place that options name.
 fn place_in(options: &ArgMatches<'_>) -> Option<Listening>
     ensures { result ≡ place_given (rows_of (found_of options.now)) }
 {
     let port = short_number(options, "port")?;
     let connections = long_number(options, "connections")?;
-    Some(Listening { port, connections })
+    let patience = patience_in(options);
+    Some(Listening {
+        port,
+        connections,
+        patience,
+    })
 }
 
 /// To serve a database at this place and the office that the words name.

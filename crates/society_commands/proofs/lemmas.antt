@@ -6,3 +6,4 @@ pub mod DatabaseLemmas
 pub mod ReplayLemmas
 pub mod TableLemmas
 pub mod UnusedLemmas
+pub mod WarnedLemmas

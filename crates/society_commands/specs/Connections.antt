@@ -31,27 +31,44 @@ use Rattle.desk_connections.specs.Doors.{CameIn, ComeInOrder, Connection, IsLoop
 use Rattle.society_commands.specs.declared.machine.OpenDatabase.{Ghosts as Opens}
 use Rattle.society_commands.specs.declared.left.Left.{Left}
 use Rattle.society_commands.specs.declared.left.Left.TheVariants as left
+use Rattle.society_commands.specs.declared.listened.Listened.{Listened}
+use Rattle.society_commands.specs.declared.listened.Listened.TheVariants as heard
 use Rattle.society_commands.specs.declared.opening.Job.{Job}
 use Rattle.society_commands.specs.declared.trouble.Trouble.{Trouble}
 use Rattle.society_commands.specs.declared.trouble.Trouble.TheVariants.{Database, NoConnection, NoListener}
-use Rattle.society_arguments.specs.Words.{Asked, AsksAudit, AsksCredit, AsksServe, Serving, serving_of}
+use Rattle.society_arguments.specs.Words.{Asked, AsksAudit, AsksCredit, AsksReplay, AsksServe, Serving, serving_of}
 
 -- what is served by a job at an office
 abbrev pub serving_as : Job → Office → Serving
 serving_as job office = serving_of job.database job.place office
 
--- So many connections came in at a port of this machine alone, were served over a store, and nothing else was asked of it; `listening` was
+-- the door is as the last connection left it, where it is not that one more could not be accepted
+abbrev pub IsLeftAs : {D : Type 0} → Bool → D → D → Type 0
+IsLeftAs false last ended = ended ≡ last
+IsLeftAs true last ended = ⊤
+
+-- So many connections came in at a place, on this machine alone, were served over a store, and nothing else was asked of it; `listening` was
 -- printed before, and a line for each. Each that could be accepted was served, in the order in which they came in and whatever became of
--- those before; this is whether the next one could not be.
-pub record ServesStore {N D R V S W : Type 0} (net : Network N D R V) (state : S → State) (desk new_desk : S) (contents : W → Option (List ℕ)) (out new_out : Counted W) (port count : ℕ) (failed : Bool) : Type 0 where
+-- those before; this is whether the next one could not be, and what is left of what listened: the door as the last connection left it.
+pub record ServesStore {N D R V S W : Type 0} (net : Network N D R V) (state : S → State) (desk new_desk : S) (contents : W → Option (List ℕ))
+    (out new_out : Counted W) (place : Listening) (count : ℕ) (failed : Bool) (listened : Listened N D) : Type 0 where
+  pub door : D
+  pub last : D
+  pub ended : D
   pub connections : List (Connection R V)
   pub number : length connections ≡ count
   pub numbered : ComeInOrder net.ways 1 connections
-  pub each : ServesEach net.ways state connections desk new_desk
+  pub each : ServesEach net.ways state connections desk new_desk door last
   pub counted : AllByRecursion IsCounted connections
   pub answers : AreAnswered state (parts_brought connections) (replies_given connections) desk new_desk
   pub printed : Prints contents out new_out (codes "listening\n" ++ connection_lines 1 connections)
-  pub came_in : CameIn net port count failed
+  pub came_in : CameIn net place.port place.patience count failed door ended
+  pub kept : IsLeftAs failed last ended
+  pub left : listened ≡ heard.Door ended
+
+-- what listens was not used
+abbrev pub IsUnheard : {N D : Type 0} → N → Listened N D → Type 0
+IsUnheard net listened = listened ≡ heard.Unused net
 
 -- nothing can listen at a port of this machine alone
 abbrev pub CannotListen : {N D R V : Type 0} → Network N D R V → ℕ → Type 0
@@ -59,10 +76,12 @@ CannotListen net port = (address : SocketAddrV4) × IsLoopback port address × n
 
 -- serving over a store ended early, as is told: it could not listen, so the store is the same and nothing was printed; or fewer connections
 -- came than were asked for, and then one could not be accepted
-abbrev pub StopsServingStore : {N D R V S W : Type 0} → Network N D R V → (S → State) → S → S → (W → Option (List ℕ)) → Counted W → Counted W → Listening → (Trouble → Type 0) → Type 0
-StopsServingStore net state desk new_desk contents out new_out place Told =
-    (CannotListen net place.port × (new_desk ≡ desk) × (new_out ≡ out) × Told (NoListener place.port))
-    ⊎ ((count : ℕ) × (count < place.connections) × ServesStore net state desk new_desk contents out new_out place.port count true × Told NoConnection)
+abbrev pub StopsServingStore : {N D R V S W : Type 0} → Network N D R V → (S → State) → S → S → (W → Option (List ℕ)) → Counted W → Counted W
+    → Listening → (Trouble → Type 0) → Listened N D → Type 0
+StopsServingStore net state desk new_desk contents out new_out place Told listened =
+    (CannotListen net place.port × (new_desk ≡ desk) × (new_out ≡ out) × Told (NoListener place.port) × (listened ≡ heard.Refused))
+    ⊎ ((count : ℕ) × (count < place.connections) × ServesStore net state desk new_desk contents out new_out place count true listened
+    × Told NoConnection)
 
 -- a book is that of the tables that older ones of an office were taken over into
 abbrev pub IsTakenBook : Office → OlderLayout → Trees → Book → Type 0
@@ -141,12 +160,13 @@ FindsSound {F = F} {g = g} opens path office contents out new_out rest =
     × ((ended : Held (FileStore F g)) × IsSoundDatabase office (file_state conn) (file_state ended) × (rest ≡ left.Connection ended))
     × Prints contents out new_out (codes "sound\n")
 
--- no database was opened at a path to be audited, or one was and is not sound; it is left as it was, and nothing was printed
-abbrev pub FindsUnsound : {O F W : Type 0} {g : disk.Ghosts F} → Opens O F → O → List ℕ → Office → Counted W → Counted W → (Trouble → Type 0) → Left F O g → Type 0
-FindsUnsound {F = F} {g = g} opens opener path office out new_out Told rest =
+-- no database was opened at a path to be audited, or one was and is not sound; each is told, it is left as it was, and nothing was printed
+abbrev pub FindsUnsound : {O F W : Type 0} {g : disk.Ghosts F} → Opens O F → O → List ℕ → Office → Counted W → Counted W
+    → (Trouble → Type 0) → (Trouble → Type 0) → Left F O g → Type 0
+FindsUnsound {F = F} {g = g} opens opener path office out new_out Told ToldOpened rest =
     (((fault : OpenFault) × LeavesRefused opens opener path true fault rest × Told (Database fault))
     ⊎ ((conn : Held (FileStore F g)) × IsOpenedAt opens path true conn
-    × ((ended : Held (FileStore F g)) × TellsUnsound office (file_state conn) (file_state ended) Told × (rest ≡ left.Connection ended))))
+    × ((ended : Held (FileStore F g)) × TellsUnsound office (file_state conn) (file_state ended) ToldOpened × (rest ≡ left.Connection ended))))
     × (new_out ≡ out)
 
 -- readings leave a connection at rest as it was: what was committed is shown still, and a crash leaves what it left before
@@ -174,41 +194,51 @@ StopsCrediting opens opener path office out new_out Told rest =
     ((fault : OpenFault) × LeavesRefused opens opener path true fault rest × Told (Database fault) × (new_out ≡ out)) ⊎ CreditsOpened opens path office 1 rest
 
 -- so many connections were served over a store that was opened over what a connection was found with, and this is the store behind them
-abbrev pub ServesDatabase : {N D R V S W : Type 0} → Network N D R V → (S → State) → Office → Bool → connection.State → S → (W → Option (List ℕ)) → Counted W → Counted W → Listening → Type 0
-ServesDatabase {S = S} net state office existing found ended contents out new_out place =
-    (begun : S) × IsOver office existing found (state begun) × ServesStore net state begun ended contents out new_out place.port place.connections false
+abbrev pub ServesDatabase : {N D R V S W : Type 0} → Network N D R V → (S → State) → Office → Bool → connection.State → S → (W → Option (List ℕ))
+    → Counted W → Counted W → Listening → Listened N D → Type 0
+ServesDatabase {S = S} net state office existing found ended contents out new_out place listened =
+    (begun : S) × IsOver office existing found (state begun)
+    × ServesStore net state begun ended contents out new_out place place.connections false listened
 
 -- serving so ended early, and this is the store then
-abbrev pub StopsServingDatabase : {N D R V S W : Type 0} → Network N D R V → (S → State) → Office → Bool → connection.State → S → (W → Option (List ℕ)) → Counted W → Counted W → Listening → (Trouble → Type 0) → Type 0
-StopsServingDatabase {S = S} net state office existing found ended contents out new_out place Told =
-    (begun : S) × IsOver office existing found (state begun) × StopsServingStore net state begun ended contents out new_out place Told
+abbrev pub StopsServingDatabase : {N D R V S W : Type 0} → Network N D R V → (S → State) → Office → Bool → connection.State → S
+    → (W → Option (List ℕ)) → Counted W → Counted W → Listening → (Trouble → Type 0) → Listened N D → Type 0
+StopsServingDatabase {S = S} net state office existing found ended contents out new_out place Told listened =
+    (begun : S) × IsOver office existing found (state begun) × StopsServingStore net state begun ended contents out new_out place Told listened
 
 -- so many connections were served over a database, and its store is left as they left it
-abbrev pub LeavesServed : {C N D R V S W : Type 0} → Network N D R V → (S → State) → Serving → connection.State → Result S C → (W → Option (List ℕ)) → Counted W → Counted W → Type 0
-LeavesServed net state s found (Ok ended) contents out new_out = ServesDatabase net state s.office s.existing found ended contents out new_out s.place
-LeavesServed net state s found (Err left) contents out new_out = ⊥
+abbrev pub LeavesServed : {C N D R V S W : Type 0} → Network N D R V → (S → State) → Serving → connection.State → Result S C
+    → (W → Option (List ℕ)) → Counted W → Counted W → Listened N D → Type 0
+LeavesServed net state s found (Ok ended) contents out new_out listened =
+    ServesDatabase net state s.office s.existing found ended contents out new_out s.place listened
+LeavesServed net state s found (Err left) contents out new_out listened = ⊥
 
 -- serving ended early, and its store is left as the connections left it; or the database was not opened, its connection is left as
--- opening left it, and nothing was printed
-abbrev pub LeavesBroken : {C N D R V S W : Type 0} → (C → connection.State) → Network N D R V → (S → State) → Serving → C → Result S C → (W → Option (List ℕ)) → Counted W → Counted W → (Trouble → Type 0) → Type 0
-LeavesBroken show net state s found (Ok ended) contents out new_out Told =
-    StopsServingDatabase net state s.office s.existing (show found) ended contents out new_out s.place Told
-LeavesBroken show net state s found (Err left) contents out new_out Told =
+-- opening left it, nothing was printed, and nothing listened
+abbrev pub LeavesBroken : {C N D R V S W : Type 0} → (C → connection.State) → Network N D R V → (S → State) → N → Serving → C → Result S C
+    → (W → Option (List ℕ)) → Counted W → Counted W → (Trouble → Type 0) → Listened N D → Type 0
+LeavesBroken show net state host s found (Ok ended) contents out new_out Told listened =
+    StopsServingDatabase net state s.office s.existing (show found) ended contents out new_out s.place Told listened
+LeavesBroken show net state host s found (Err left) contents out new_out Told listened =
     (fault : OpenFault) × IsNotOpened s.office s.existing fault (show found) (show left) × (new_out ≡ out) × Told (Database fault)
+    × IsUnheard host listened
 
 -- the database of a path was opened, as many connections as were asked for were served over it, and its store was closed as they left it
-abbrev pub ServesOpened : {F N D R V O S W : Type 0} {g : disk.Ghosts F} → (S → State) → (S → Held (FileStore F g)) → Network N D R V → Opens O F → Serving → (W → Option (List ℕ)) → Counted W → Counted W → Left F O g → Type 0
-ServesOpened {F = F} {S = S} {g = g} state conn_of net opens s contents out new_out rest =
+abbrev pub ServesOpened : {F N D R V O S W : Type 0} {g : disk.Ghosts F} → (S → State) → (S → Held (FileStore F g)) → Network N D R V → Opens O F
+    → Serving → (W → Option (List ℕ)) → Counted W → Counted W → Left F O g → Listened N D → Type 0
+ServesOpened {F = F} {S = S} {g = g} state conn_of net opens s contents out new_out rest listened =
     (conn : Held (FileStore F g)) × IsOpenedAt opens s.path s.existing conn
-    × ((ended : Result S (Held (FileStore F g))) × LeavesServed net state s (file_state conn) ended contents out new_out
+    × ((ended : Result S (Held (FileStore F g))) × LeavesServed net state s (file_state conn) ended contents out new_out listened
     × HandsBack state conn_of ended rest)
 
--- serving so ended early: no database could be opened, and nothing was printed; or this was left of it, and closed where it is a store
-abbrev pub StopsServingOpened : {F N D R V O S W : Type 0} {g : disk.Ghosts F} → (S → State) → (S → Held (FileStore F g)) → Network N D R V → Opens O F → O → Serving → (W → Option (List ℕ)) → Counted W → Counted W → (Trouble → Type 0) → Left F O g → Type 0
-StopsServingOpened {F = F} {S = S} {g = g} state conn_of net opens opener s contents out new_out Told rest =
-    ((fault : OpenFault) × LeavesRefused opens opener s.path s.existing fault rest × (new_out ≡ out) × Told (Database fault))
+-- serving so ended early: no database could be opened, nothing was printed, and nothing listened; or this was left of it, and closed where it
+-- is a store; what is told where one was opened is the last of these
+abbrev pub StopsServingOpened : {F N D R V O S W : Type 0} {g : disk.Ghosts F} → (S → State) → (S → Held (FileStore F g)) → Network N D R V → Opens O F
+    → N → O → Serving → (W → Option (List ℕ)) → Counted W → Counted W → (Trouble → Type 0) → (Trouble → Type 0) → Left F O g → Listened N D → Type 0
+StopsServingOpened {F = F} {S = S} {g = g} state conn_of net opens host opener s contents out new_out Told ToldOpened rest listened =
+    ((fault : OpenFault) × LeavesRefused opens opener s.path s.existing fault rest × (new_out ≡ out) × Told (Database fault) × IsUnheard host listened)
     ⊎ ((conn : Held (FileStore F g)) × IsOpenedAt opens s.path s.existing conn
-    × ((ended : Result S (Held (FileStore F g))) × LeavesBroken file_state net state s conn ended contents out new_out Told
+    × ((ended : Result S (Held (FileStore F g))) × LeavesBroken file_state net state host s conn ended contents out new_out ToldOpened listened
     × HandsBack state conn_of ended rest))
 
 -- but to serve a database, to audit one or to tell of orders over one, words ask to open nothing: the opener is left as it was given
@@ -217,3 +247,14 @@ UsesNothing (AsksServe path existing place society territory name) opener rest =
 UsesNothing (AsksAudit path society territory name) opener rest = ⊤
 UsesNothing (AsksCredit path society territory name) opener rest = ⊤
 UsesNothing asked opener rest = IsUnused opener rest
+
+-- but to serve a database, words ask for nothing that listens: it is left as it was given
+abbrev pub ListensNowhere : {N D : Type 0} → Asked → N → Listened N D → Type 0
+ListensNowhere (AsksServe path existing place society territory name) net listened = ⊤
+ListensNowhere asked net listened = IsUnheard net listened
+
+-- but to replay a stream and to tell of orders, words ask to read nothing: the reader is as it was
+abbrev pub ReadsNothing : {R : Type 0} → Asked → Counted R → Counted R → Type 0
+ReadsNothing (AsksReplay society territory name) reader new_reader = ⊤
+ReadsNothing (AsksCredit path society territory name) reader new_reader = ⊤
+ReadsNothing asked reader new_reader = new_reader ≡ reader

@@ -1,5 +1,5 @@
 -- What the program says on standard error, and when it says nothing there.
-use Rattle.std.specs.Prelude.{◌≡◌, ℕ, List, ◌++◌, Option, Result, Ok, Err, codes, decimal}
+use Rattle.std.specs.Prelude.{◌≡◌, ℕ, Bool, true, false, List, ◌++◌, Option, Result, Ok, Err, codes, decimal}
 use Rattle.http_desk.specs.declared.counted.Counted.{Counted}
 use Rattle.http_desk.specs.declared.fault.FaultKind.TheVariants as kind
 use Rattle.sqlite_disk.specs.declared.Disk.{Ghosts}
@@ -8,6 +8,8 @@ use Rattle.society_commands.specs.Refusals.{database_fault}
 use Rattle.desk_connections.specs.Faults.{fault_text}
 use Rattle.society_commands.specs.declared.left.Left.{Left}
 use Rattle.society_commands.specs.declared.left.Left.TheVariants.{Unclosed}
+use Rattle.society_arguments.specs.Words.{Asked, AsksAudit, AsksCredit, AsksServe}
+use Rattle.society_commands.specs.declared.machine.OpenDatabase.{Ghosts as Opens}
 use Rattle.society_commands.specs.declared.starting.NoWords.{NoWords}
 use Rattle.society_commands.specs.declared.starting.NoWords.TheVariants as without
 use Rattle.society_commands.specs.declared.trouble.Trouble.{Trouble}
@@ -33,6 +35,36 @@ refused_line why = codes "society: " ++ why ++ codes "\n"
 abbrev pub TellsOfLog : {D O E : Type 0} {g : Ghosts D} → (E → Option (List ℕ)) → Counted E → Counted E → Left D O g → Type 0
 TellsOfLog contents err new_err (Unclosed error last) = Prints contents err new_err (codes "society: log not copied\n")
 TellsOfLog contents err new_err _ = new_err ≡ err
+
+-- the line that says that others may write the file of a path (profile)
+abbrev pub others_line : List ℕ → List ℕ
+others_line path = codes "society: others may write " ++ path ++ codes "\n"
+
+-- it was told where they may, and else nothing
+abbrev pub TellsOfOthers : {E : Type 0} → (E → Option (List ℕ)) → Counted E → Counted E → List ℕ → Bool → Type 0
+TellsOfOthers contents err new_err path true = Prints contents err new_err (others_line path)
+TellsOfOthers contents err new_err path false = new_err ≡ err
+
+-- what is told of a file that was opened at a path: whether others may write it, as its opener says
+abbrev pub Warns : {O F E : Type 0} → Opens O F → (E → Option (List ℕ)) → Counted E → Counted E → List ℕ → Type 0
+Warns opens contents err new_err path = (others : Bool) × opens.may_be_shared path others × TellsOfOthers contents err new_err path others
+
+-- behind that, this trouble was told
+abbrev pub TellsOpened : {O F E : Type 0} → Opens O F → (E → Option (List ℕ)) → Counted E → Counted E → List ℕ → Trouble → Type 0
+TellsOpened {E = E} opens contents err new_err path trouble =
+    (between : Counted E) × Warns opens contents err between path × Tells contents between new_err trouble
+
+-- behind that, what is told where all that was asked for is done
+abbrev pub TellsDone : {D O E : Type 0} {g : Ghosts D} → Opens O D → (E → Option (List ℕ)) → Counted E → Counted E → List ℕ → Left D O g → Type 0
+TellsDone {E = E} opens contents err new_err path rest =
+    (between : Counted E) × Warns opens contents err between path × TellsOfLog contents between new_err rest
+
+-- what is told where all that words ask for is done: nothing, or what is of the database that they name
+abbrev pub TellsQuietly : {D O E : Type 0} {g : Ghosts D} → Opens O D → (E → Option (List ℕ)) → Counted E → Counted E → Left D O g → Asked → Type 0
+TellsQuietly opens contents err new_err rest (AsksServe path existing place society territory name) = TellsDone opens contents err new_err path rest
+TellsQuietly opens contents err new_err rest (AsksAudit path society territory name) = TellsDone opens contents err new_err path rest
+TellsQuietly opens contents err new_err rest (AsksCredit path society territory name) = TellsDone opens contents err new_err path rest
+TellsQuietly opens contents err new_err rest asked = new_err ≡ err
 
 -- what is told where the words could not be had: that they are wrong, where one is no text; or that memory was refused before any request
 abbrev pub TellsWithout : {E : Type 0} → (E → Option (List ℕ)) → Counted E → Counted E → NoWords → Type 0

@@ -3,7 +3,7 @@ ghost use Rattle.std.specs.Prelude.{◌≡◌, ◌⊎◌, codes, false, true};
 ghost use Rattle.sqlite.specs.Held.{state};
 ghost use Rattle.society_commands.specs.Connections.{FindsSound, FindsUnsound, IsSoundDatabase, TellsUnsound};
 ghost use Rattle.desk_connections.specs.Connections.{Prints};
-ghost use Rattle.society_commands.specs.Troubles.{Tells, TellsOfLog};
+ghost use Rattle.society_commands.specs.Troubles.{Tells, TellsDone, TellsOpened};
 
 use crate::left::Left;
 use crate::machine::OpenDatabase;
@@ -20,8 +20,8 @@ use std::alloc::Global;
 use std::io::Write;
 
 /// Audits the database at a path, which has to be there, as the office's, and writes nothing to it. Prints `sound` and answers
-/// 0 where it holds the office's book; else writes one line on `err`, prints nothing, and answers 1. What is left of it comes back, or the
-/// opener where it opened nothing.
+/// 0 where it holds the office's book; else writes one line on `err`, prints nothing, and answers 1. Before that one line where others may
+/// write the file. What is left of it comes back, or the opener where it opened nothing.
 pub fn audit_file<O: OpenDatabase, W: Write, E: Write>(
     opener: O,
     alloc: Global,
@@ -32,14 +32,15 @@ pub fn audit_file<O: OpenDatabase, W: Write, E: Write>(
 ) -> (u8, Left<O::File, O>)
     ensures status { (result.0 ≡ 0) ⊎ (result.0 ≡ 1) }
     ensures sound { result.0 ≡ 0 → FindsSound O.OpenDatabase path.now office.now W.contents out.old out.new result.1 }
-    ensures quiet { result.0 ≡ 0 → TellsOfLog E.contents err.old err.new result.1 }
-    ensures err { result.0 ≡ 1 → FindsUnsound O.OpenDatabase opener path.now office.now out.old out.new (Tells E.contents err.old err.new) result.1 }
+    ensures quiet { result.0 ≡ 0 → TellsDone O.OpenDatabase E.contents err.old err.new path.now result.1 }
+    ensures err { result.0 ≡ 1 → FindsUnsound O.OpenDatabase opener path.now office.now out.old out.new (Tells E.contents err.old err.new)
+        (TellsOpened O.OpenDatabase E.contents err.old err.new path.now) result.1 }
 {
     let database = Database {
         path,
         existing: true,
     };
-    match open_there(opener, database) {
+    match open_there(opener, database, err) {
         Ok(connection) => {
             let (status, connection) = audit_database(alloc, connection, office, out, err);
             (status, Left::Connection(connection))

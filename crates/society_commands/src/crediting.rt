@@ -3,7 +3,7 @@ ghost use Rattle.std.specs.Prelude.{◌≡◌, ◌⊎◌, IfOk, Ok, false, true}
 ghost use Rattle.sqlite.specs.Held.{state};
 ghost use Rattle.society_rows.specs.Between.{between};
 ghost use Rattle.society_commands.specs.Connections.{CreditsOpened, CreditsOver, KeepsShown, StopsCrediting};
-ghost use Rattle.society_commands.specs.Troubles.{Tells, TellsOfLog};
+ghost use Rattle.society_commands.specs.Troubles.{Tells, TellsDone};
 
 use crate::left::Left;
 use crate::machine::OpenDatabase;
@@ -33,7 +33,7 @@ pub fn credit_file<O: OpenDatabase, R: Read, W: Write, E: Write>(
     err: &mut Counted<E>,
 ) -> (u8, Left<O::File, O>)
     ensures status { (result.0 ≡ 0) ⊎ (result.0 ≡ 1) }
-    ensures quiet { result.0 ≡ 0 → TellsOfLog E.contents err.old err.new result.1 }
+    ensures quiet { result.0 ≡ 0 → TellsDone O.OpenDatabase E.contents err.old err.new path.now result.1 }
     ensures credited { result.0 ≡ 0 → CreditsOpened O.OpenDatabase path.now office.now 0 result.1 }
     ensures stopped { result.0 ≡ 1 → StopsCrediting O.OpenDatabase opener path.now office.now out.old out.new (Tells E.contents err.old err.new) result.1 }
 {
@@ -41,7 +41,7 @@ pub fn credit_file<O: OpenDatabase, R: Read, W: Write, E: Write>(
         path,
         existing: true,
     };
-    match open_there(opener, database) {
+    match open_there(opener, database, err) {
         Ok(connection) => {
             let (status, connection) = credit_database(alloc, connection, office, reader, out, err);
             (status, Left::Connection(connection))

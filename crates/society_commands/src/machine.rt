@@ -19,6 +19,9 @@ pub trait OpenDatabase {
     /// What a look at a path may tell: whether a database is there.
     ghost may_find: { List ℕ → Bool → Type 0 };
 
+    /// Whether group or others may write the file that was opened at a path.
+    ghost may_be_shared: { List ℕ → Bool → Type 0 };
+
     /// What a connection may be that was opened at a path.
     ghost may_open: { (g : Ghosts Self.File) → List ℕ → Held (Kept Self.File g) → Type 0 };
 
@@ -34,16 +37,18 @@ pub trait OpenDatabase {
         ensures found { IfOk result (λ found. may_find path.now found) }
         ensures failed { IfErr result (may_fail path.now) };
 
-    /// A connection to the database at a path, new and with no limit; where there is none it is made. `Memory` where memory was refused, `Log`
+    /// A connection to the database at a path, new and with no limit, and whether group or others may write its file; where there is none it
+    /// is made. `Memory` where memory was refused, `Log`
     /// where its log is not as a stop leaves it, `Empty` where it has no table and no page sums, `Damaged` where it is not as it was written,
     /// else `Store`; with what is left of the files, or the opener where it could open none.
     fn open_database(
         self,
         path: &str,
-    ) -> Result<Connection<FileStore<Self::File>>, (OpenFault, Left<Self::File, Self>)>
+    ) -> Result<(Connection<FileStore<Self::File>>, bool), (OpenFault, Left<Self::File, Self>)>
     where
         Self: Sized,
-        ensures opened { IfOk result (may_open Self.File.Disk path.now) }
-        ensures new { IfOk result IsNew }
+        ensures opened { IfOk result (λ opened. may_open Self.File.Disk path.now opened.0) }
+        ensures new { IfOk result (λ opened. IsNew opened.0) }
+        ensures shared { IfOk result (λ opened. may_be_shared path.now opened.1) }
         ensures refused { IfErr result (λ e. may_refuse Self.File.Disk path.now e.0 e.1) };
 }

@@ -4,17 +4,18 @@ ghost use Rattle.std.specs.IoError.{error_kind};
 ghost use Rattle.clap.specs.Words.{kind_of};
 ghost use Rattle.clap.specs.declared.error.kind.ErrorKind.TheVariants.{DisplayHelp, OutOfMemory};
 ghost use Rattle.http_desk.specs.Serves.{KeepsTurns, NeitherFails};
-ghost use Rattle.society_commands.specs.Connections.{CreditsOpened, FindsSound, FindsUnsound, ServesOpened, StopsCrediting, StopsServingOpened, IsUnused, UsesNothing};
+ghost use Rattle.society_commands.specs.Connections.{CreditsOpened, FindsSound, FindsUnsound, ServesOpened, StopsCrediting, StopsServingOpened, IsUnheard, IsUnused, ListensNowhere, ReadsNothing, UsesNothing};
 ghost use Rattle.society_commands.specs.Replays.{Replays, BreaksOff};
 ghost use Rattle.desk_connections.specs.Faults.{most_turns};
 ghost use Rattle.society_commands.specs.Refusals.{status_after, no_words_by, status_without};
 ghost use Rattle.desk_connections.specs.Connections.{Prints};
-ghost use Rattle.society_commands.specs.Troubles.{Tells, TellsAtEnd, TellsOfLog, TellsWithout, refused_line};
+ghost use Rattle.society_commands.specs.Troubles.{Tells, TellsAtEnd, TellsOpened, TellsQuietly, TellsWithout, refused_line};
 ghost use Rattle.society_arguments.specs.Words.{AsksHelp, EndsAudit, EndsCredit, EndsReplay, EndsServing, HasBadName, IsWrong, WantsReplay, asks};
 
 use crate::auditing::audit_file;
 use crate::crediting::credit_file;
 use crate::left::Left;
+use crate::listened::Listened;
 use crate::machine::OpenDatabase;
 use crate::opening::{Job, serve_file};
 use crate::replaying::{SERVED, replay};
@@ -47,8 +48,9 @@ pub enum NoWords {
 /// Does what the program's words ask for: replays the reader at the office that they name, or serves connections there over the
 /// database that they name, or audits that database, or tells what orders would credit over it, or tells of the words on `out`; where they are wrong, says so on `err` and reads
 /// and writes nothing else. Answers the exit status: that of `replay`, `serve_file`, `audit_file` or `credit_file`, 0 for help, 2 for wrong words;
-/// else memory was refused for the words. What is left of the database comes back with it, and the opener where there is nothing to open.
-pub fn start<N: Listen + Drop, O: OpenDatabase, R: Read, W: Write, E: Write>(
+/// else memory was refused for the words. What is left of the database comes back with it, and the opener where there is nothing to open; and
+/// what is left of the network, which is used to serve a database alone. But to replay and to tell of orders, nothing is read.
+pub fn start<N: Listen, O: OpenDatabase, R: Read, W: Write, E: Write>(
     net: N,
     opener: O,
     alloc: Global,
@@ -56,18 +58,20 @@ pub fn start<N: Listen + Drop, O: OpenDatabase, R: Read, W: Write, E: Write>(
     reader: &mut Counted<R>,
     out: &mut Counted<W>,
     err: &mut Counted<E>,
-) -> (Result<u8, NoWords>, Left<O::File, O>)
-    ensures err { OnErr result.0 ((reader.new ≡ reader.old) × (out.new ≡ out.old) × (err.new ≡ err.old) × IsUnused opener result.1) }
+) -> (Result<u8, NoWords>, Left<O::File, O>, Listened<N, N::Door>)
+    ensures err { OnErr result.0 ((reader.new ≡ reader.old) × (out.new ≡ out.old) × (err.new ≡ err.old) × IsUnused opener result.1 × IsUnheard net result.2) }
     ensures memory { IfErr result.0 (λ why. why ≡ NoWords.Memory) }
     ensures wrong { IsWrong (asks words.now)
         → IfOk result.0 (λ status. (status ≡ 2) × (reader.new ≡ reader.old) × (out.new ≡ out.old)) }
     ensures name { asks words.now ≡ HasBadName → IfOk result.0 (λ _. Prints E.contents err.old err.new (refused_line (codes "bad name"))) }
     ensures help { asks words.now ≡ AsksHelp → IfOk result.0 (λ status. (status ≡ 0) × (reader.new ≡ reader.old)) }
     ensures status { IfOk result.0 (λ status. (status ≡ 0) ⊎ ((status ≡ 1) ⊎ ((status ≡ 2) × IsWrong (asks words.now)))) }
-    // Where all that they ask for is done, nothing is said on `err` but that a log was not copied.
-    ensures quiet { IfOk result.0 (λ status. status ≡ 0 → TellsOfLog E.contents err.old err.new result.1) }
-    // But to serve, to audit and to credit nothing is opened.
+    // Where all that they ask for is done, nothing is said on `err` but that others may write the file, and that a log was not copied.
+    ensures quiet { IfOk result.0 (λ status. status ≡ 0 → TellsQuietly O.OpenDatabase E.contents err.old err.new result.1 (asks words.now)) }
+    // But to serve, to audit and to credit nothing is opened; but to serve nothing listens; but to replay and to credit nothing is read.
     ensures unused { UsesNothing (asks words.now) opener result.1 }
+    ensures unheard { ListensNowhere (asks words.now) net result.2 }
+    ensures unread { ReadsNothing (asks words.now) reader.old reader.new }
     ensures replayed { EndsReplay (asks words.now) 0 result.0 (λ office.
         Replays office R.remaining W.contents reader.old out.old out.new) }
     ensures broken_off { EndsReplay (asks words.now) 1 result.0 (λ office.
@@ -76,13 +80,15 @@ pub fn start<N: Listen + Drop, O: OpenDatabase, R: Read, W: Write, E: Write>(
     ensures kept { EndsReplay (asks words.now) 0 result.0 (λ office. NeitherFails reader.old reader.new out.old out.new) }
     ensures turns { WantsReplay (asks words.now) → IfOk result.0 (λ status. KeepsTurns R.remaining reader.old reader.new most_turns) }
     ensures served { EndsServing (asks words.now) 0 result.0 (λ s. ServesOpened
-        ⟦<Tables<FileStore<O::File>> as Store>⟧.state (λ t. t.conn) ⟦<N as Network>⟧.network O.OpenDatabase s W.contents out.old out.new result.1) }
+        ⟦<Tables<FileStore<O::File>> as Store>⟧.state (λ t. t.conn) ⟦<N as Network>⟧.network O.OpenDatabase s W.contents out.old out.new result.1 result.2) }
     ensures stopped { EndsServing (asks words.now) 1 result.0 (λ s. StopsServingOpened
-        ⟦<Tables<FileStore<O::File>> as Store>⟧.state (λ t. t.conn) ⟦<N as Network>⟧.network O.OpenDatabase opener s W.contents out.old out.new (Tells E.contents err.old err.new) result.1) }
+        ⟦<Tables<FileStore<O::File>> as Store>⟧.state (λ t. t.conn) ⟦<N as Network>⟧.network O.OpenDatabase net opener s W.contents out.old out.new
+        (Tells E.contents err.old err.new) (TellsOpened O.OpenDatabase E.contents err.old err.new s.path) result.1 result.2) }
     ensures sound { EndsAudit (asks words.now) 0 result.0 (λ path office.
         FindsSound O.OpenDatabase path office W.contents out.old out.new result.1) }
     ensures unsound { EndsAudit (asks words.now) 1 result.0 (λ path office.
-        FindsUnsound O.OpenDatabase opener path office out.old out.new (Tells E.contents err.old err.new) result.1) }
+        FindsUnsound O.OpenDatabase opener path office out.old out.new (Tells E.contents err.old err.new)
+        (TellsOpened O.OpenDatabase E.contents err.old err.new path) result.1) }
     ensures credited { EndsCredit (asks words.now) 0 result.0 (λ path office. CreditsOpened O.OpenDatabase path office 0 result.1) }
     ensures uncredited { EndsCredit (asks words.now) 1 result.0 (λ path office.
         StopsCrediting O.OpenDatabase opener path office out.old out.new (Tells E.contents err.old err.new) result.1) }
@@ -90,24 +96,36 @@ pub fn start<N: Listen + Drop, O: OpenDatabase, R: Read, W: Write, E: Write>(
     match words_in(alloc, words) {
         Ok(Words::Replay(office)) => {
             let status = replay(alloc, &office, reader, out, err);
-            (Ok(status), Left::Unused(opener))
+            (Ok(status), Left::Unused(opener), Listened::Unused(net))
         }
         Ok(Words::Serve(database, place, office)) => {
             let job = Job { database, place };
-            let (status, left) = serve_file(net, opener, alloc, job, &office, out, err);
-            (Ok(status), left)
+            let (status, left, listened) = serve_file(net, opener, alloc, job, &office, out, err);
+            (Ok(status), left, listened)
         }
         Ok(Words::Audit(path, office)) => {
             let (status, left) = audit_file(opener, alloc, path, &office, out, err);
-            (Ok(status), left)
+            (Ok(status), left, Listened::Unused(net))
         }
         Ok(Words::Credit(path, office)) => {
             let (status, left) = credit_file(opener, alloc, path, &office, reader, out, err);
-            (Ok(status), left)
+            (Ok(status), left, Listened::Unused(net))
         }
-        Ok(Words::BadName) => (Ok(refuse(err, "bad name")), Left::Unused(opener)),
-        Ok(Words::BadWords) => (Ok(refuse(err, "bad words")), Left::Unused(opener)),
-        Err(error) => (explain(alloc, &error, out, err), Left::Unused(opener)),
+        Ok(Words::BadName) => (
+            Ok(refuse(err, "bad name")),
+            Left::Unused(opener),
+            Listened::Unused(net),
+        ),
+        Ok(Words::BadWords) => (
+            Ok(refuse(err, "bad words")),
+            Left::Unused(opener),
+            Listened::Unused(net),
+        ),
+        Err(error) => (
+            explain(alloc, &error, out, err),
+            Left::Unused(opener),
+            Listened::Unused(net),
+        ),
     }
 }
 

@@ -3,7 +3,7 @@ ghost use Rattle.std.specs.Prelude.{◌≡◌, ◌++◌, codes, decimal};
 ghost use Rattle.desk_connections.specs.Connections.{Prints};
 ghost use Rattle.society_commands.specs.Refusals.{database_fault};
 ghost use Rattle.desk_connections.specs.Faults.{fault_text};
-ghost use Rattle.society_commands.specs.Troubles.{Tells, trouble_text};
+ghost use Rattle.society_commands.specs.Troubles.{Tells, TellsOfOthers, trouble_text};
 
 use crate::replaying::BROKEN_OFF;
 use desk_connections::{print, print_fault, print_number};
@@ -35,6 +35,17 @@ pub fn tell<E: Write>(err: &mut Counted<E>, trouble: Trouble) -> u8
     print_trouble(err, trouble);
     print(err, b"\n");
     BROKEN_OFF
+}
+
+/// Writes that others may write the file of a path, where they may; what is not taken of the line is passed over.
+pub(crate) fn warn<E: Write>(err: &mut Counted<E>, path: &str, others_write: bool)
+    ensures { TellsOfOthers E.contents err.old err.new path.now others_write }
+{
+    if others_write {
+        print(err, b"society: others may write ");
+        print(err, path.as_bytes());
+        print(err, b"\n");
+    }
 }
 
 // Writes what a trouble is called.

@@ -1,3 +1,4 @@
 -- What is proved of the definitions, for the proofs of functions.
 pub mod ExaminedLemmas
 pub mod RefusalLemmas
+pub mod WayLemmas

@@ -1,4 +1,4 @@
-//! The files of this machine that hold a database.
+//! The files of a machine that hold a database.
 ghost use Rattle.std.specs.Prelude.{◌≡◌, ◌⊎◌, IfErr, false, true};
 ghost use Rattle.sqlite_std_file.specs.File.{IsFresh};
 ghost use Rattle.sqlite_wal.specs.Files.{image_at};
@@ -7,13 +7,12 @@ ghost use Rattle.society_host.specs.Found.{IsFoundIn};
 ghost use Rattle.society_host.specs.Refusals.{FaultsAs, IsToldOfNone, RefusesFiles, fault_by_start, presence_by, presence_by_log};
 
 use crate::examining::examine;
-use crate::reading::ReadFiles;
+use crate::machine::Machine;
+use log_reading::ReadAt;
 use society_commands::{Left, OpenDatabase};
 use society_opening::OpenFault;
 use sqlite::{Connection, Error, ErrorCode, FileFrom, FileStore, Start};
-use std::fs::{self, File, Permissions};
-use std::io::{ErrorKind, Read, Write};
-use std::os::unix::fs::PermissionsExt;
+use std::io::ErrorKind;
 
 /// What every database file begins with (SQLite's file format, 1.3.1).
 pub(crate) const HEADER: &[u8] = b"SQLite format 3\0";
@@ -24,36 +23,31 @@ const EMPTY_LOG: u64 = 41;
 /// That each page of a new file has its sum (SQLite's cksumvfs): a bit that changed in the file is found when it is opened.
 const NEW_HAS_SUMS: bool = true;
 
-/// Who may read and write a new file: its owner alone.
-const OWN: u32 = 0o600;
-
-/// That group or others may write a file.
-const OTHERS_WRITE: u32 = 0o022;
-
-/// The files of this machine, where `S` stands for what the file that is opened holds, and `M` reads it before that. It opens one.
+/// The files of a machine, where `S` stands for what the file that is opened holds. It opens one.
 #[derive(Drop)]
-pub struct HostFiles<'a, S: Start, M: ReadFiles> {
-    runtime: &'a HostRuntime,
+pub struct HostFiles<S: Start, M> {
+    machine: M,
     found: Option<S>,
-    reader: M,
 }
 
-impl<'a, S: Start, M: ReadFiles + Drop> HostFiles<'a, S, M> {
-    /// The files of this runtime's machine.
-    pub fn new(runtime: &'a HostRuntime, found: S, reader: M) -> HostFiles<'a, S, M> {
+impl<S: Start, M: Machine + Copy> HostFiles<S, M> {
+    /// The files of this machine.
+    pub fn new(machine: M, found: S) -> HostFiles<S, M> {
         HostFiles {
-            runtime,
+            machine,
             found: Some(found),
-            reader,
         }
     }
 }
 
-impl<'a, S: Start, M: ReadFiles + Drop> OpenDatabase for HostFiles<'a, S, M> {
+impl<S: Start, M: Machine + Copy> OpenDatabase for HostFiles<S, M> {
     type File = FileFrom<S>;
 
     // No clause of the system's ties a path to what is there.
     ghost may_find = { λ path found. Unit {0} };
+
+    // Nor a mode.
+    ghost may_be_shared = { λ path others. Unit {0} };
 
     // Nor to bytes: `S` stands for those of the file that is opened.
     ghost may_open = { λ g path c. IsFoundIn (image_at S.Start) c × IsExamined M.ReadFiles M.File.ReadAt path };
@@ -63,72 +57,63 @@ impl<'a, S: Start, M: ReadFiles + Drop> OpenDatabase for HostFiles<'a, S, M> {
     ghost may_refuse = { λ g path fault rest. RefusesFiles (λ files. IsFresh true files.log × IsFresh false files.db) fault rest };
 
     fn has_database(&self, path: &str) -> Result<bool, OpenFault> {
-        look(self.runtime, path)
+        look(&self.machine, path)
     }
 
     fn open_database(
         self,
         path: &str,
-    ) -> Result<Connection<FileStore<Self::File>>, (OpenFault, Left<Self::File, Self>)> {
-        let runtime = self.runtime;
-        let HostFiles {
-            runtime: _,
-            found,
-            reader,
-        } = self;
+    ) -> Result<(Connection<FileStore<Self::File>>, bool), (OpenFault, Left<Self::File, Self>)> {
+        let HostFiles { machine, found } = self;
         let used = HostFiles {
-            runtime,
+            machine,
             found: None,
-            reader,
         };
-        let was_there = match look(runtime, path) {
+        let was_there = match look(&machine, path) {
             Ok(was_there) => was_there,
             Err(fault) => return Err((fault, Left::Unopened(used))),
         };
-        match examine(runtime.alloc(), &used.reader, path) {
+        match examine(machine.alloc(), &machine, path) {
             Ok(()) => {}
             Err(fault) => return Err((fault, Left::Unopened(used))),
         }
         let Some(found) = found else {
             return Err((OpenFault::Store, Left::Unopened(used)));
         };
-        match Connection::open_from(runtime, path, NEW_HAS_SUMS, found) {
-            Ok(connection) => {
-                guard(runtime, path, was_there);
-                Ok(connection)
-            }
+        match machine.open_at(path, NEW_HAS_SUMS, found) {
+            Ok(connection) => Ok((connection, guard(&machine, path, was_there))),
             Err((error, Some(files))) => {
-                Err((fault_at(runtime, path, &error), Left::Refused(files)))
+                Err((fault_at(&machine, path, &error), Left::Refused(files)))
             }
-            Err((error, None)) => Err((fault_at(runtime, path, &error), Left::Unopened(used))),
+            Err((error, None)) => { Err((fault_at(&machine, path, &error), Left::Unopened(used))) }
         }
     }
 }
 
 /// Whether there is a database at a path, as `has_database` says.
-fn look(runtime: &HostRuntime, path: &str) -> Result<bool, OpenFault>
+fn look<M: Machine>(machine: &M, path: &str) -> Result<bool, OpenFault>
     ensures { IfErr result IsToldOfNone }
 {
-    match fs::metadata(runtime, path) {
-        Ok(file) if !file.is_file() => Err(OpenFault::Store),
-        Ok(file) if file.len() > 0 => Ok(true),
-        Ok(_) => without_log(runtime, path),
+    match machine.look(path) {
+        Ok(found) if !found.is_file => Err(OpenFault::Store),
+        Ok(found) if found.len > 0 => Ok(true),
+        Ok(_) => without_log(machine, path),
         Err(error) => match presence_by(error.kind()) {
-            Ok(_) => without_log(runtime, path),
+            Ok(_) => without_log(machine, path),
             Err(fault) => Err(fault),
         },
     }
 }
 
 /// That there is no database, where no log with a page stands beside: such a log is what is left of one.
-fn without_log(runtime: &HostRuntime, path: &str) -> Result<bool, OpenFault>
+fn without_log<M: Machine>(machine: &M, path: &str) -> Result<bool, OpenFault>
     ensures { IfErr result IsToldOfNone }
 {
-    let Ok(log) = format!(in runtime.alloc(); "{path}-wal") else {
+    let Ok(log) = format!(in machine.alloc(); "{path}-wal") else {
         return Err(OpenFault::Memory);
     };
-    match fs::metadata(runtime, log.as_str()) {
-        Ok(file) => presence_by_log(file.len()),
+    match machine.look(log.as_str()) {
+        Ok(found) => presence_by_log(found.len),
         Err(error) => presence_by(error.kind()),
     }
 }
@@ -146,18 +131,17 @@ fn presence_by_log(bytes: u64) -> Result<bool, OpenFault>
     }
 }
 
-/// Leaves a new file, and its log, to its owner alone, and says on standard error where others may write one that was there.
-fn guard(runtime: &HostRuntime, path: &str, was_there: bool) {
+/// Leaves a new file, and its log, to its owner alone. Whether others may write the file.
+fn guard<M: Machine>(machine: &M, path: &str, was_there: bool) -> bool {
     if !was_there {
-        let _ = fs::set_permissions(runtime, path, Permissions::from_mode(OWN));
-        if let Ok(log) = format!(in runtime.alloc(); "{path}-wal") {
-            let _ = fs::set_permissions(runtime, log.as_str(), Permissions::from_mode(OWN));
+        machine.make_private(path);
+        if let Ok(log) = format!(in machine.alloc(); "{path}-wal") {
+            machine.make_private(log.as_str());
         }
     }
-    if let Ok(file) = fs::metadata(runtime, path) {
-        if file.permissions().mode() & OTHERS_WRITE != 0 {
-            let _ = writeln!(runtime.stderr(), "society: others may write {path}");
-        }
+    match machine.look(path) {
+        Ok(found) => found.others_write,
+        Err(_) => false,
     }
 }
 
@@ -173,13 +157,13 @@ fn presence_by(kind: ErrorKind) -> Result<bool, OpenFault>
 
 /// What an error of opening the database at a path says. Where SQLite finds no database in the files, the file's first bytes tell whether
 /// it was one.
-fn fault_at(runtime: &HostRuntime, path: &str, error: &Error) -> OpenFault
+fn fault_at<M: Machine>(machine: &M, path: &str, error: &Error) -> OpenFault
     ensures faults { FaultsAs error.now result }
     ensures told { IsToldOfNone result }
 {
     match error {
         Error::SqliteFailure(ErrorCode::OutOfMemory) => OpenFault::Memory,
-        Error::SqliteFailure(ErrorCode::NotADatabase) => no_database(runtime, path),
+        Error::SqliteFailure(ErrorCode::NotADatabase) => no_database(machine, path),
         Error::SqliteFailure(ErrorCode::DatabaseCorrupt) => OpenFault::Damaged,
         _ => OpenFault::Store,
     }
@@ -187,15 +171,19 @@ fn fault_at(runtime: &HostRuntime, path: &str, error: &Error) -> OpenFault
 
 /// What is said of a file in which SQLite finds no database: it is damaged where it begins as one, or has no byte and so all that was
 /// written to it in its log; else it is none.
-fn no_database(runtime: &HostRuntime, path: &str) -> OpenFault
+fn no_database<M: Machine>(machine: &M, path: &str) -> OpenFault
     ensures { (result ≡ OpenFault.Damaged) ⊎ (result ≡ OpenFault.Store) }
 {
+    let Ok(Some(file)) = machine.file_at(path) else {
+        return OpenFault::Store;
+    };
+    let Ok(len) = file.len() else {
+        return OpenFault::Store;
+    };
     let mut first = [0; HEADER.len()];
-    match File::open(runtime, path) {
-        Ok(mut file) => match file.read(&mut first) {
-            Ok(count) => fault_by_start(&first[..count]),
-            Err(_) => OpenFault::Store,
-        },
+    let count = len.min(HEADER.len());
+    match file.read_at(0, &mut first[..count]) {
+        Ok(()) => fault_by_start(&first[..count]),
         Err(_) => OpenFault::Store,
     }
 }

@@ -1,17 +1,18 @@
-//! The machine that the program runs on: its network, its clocks, its files and the standard streams. All that the program opens, it
-//! opens by these calls.
+//! What the program does with the machine that it runs on: connections come in by its network, a database is opened in its files. All of that
+//! is asked of a `Machine`, which the program gives; nothing here reaches one otherwise.
 #![tactic(auto)]
 
 mod examining;
 mod files;
 mod listening;
+mod machine;
 mod parting;
 mod patience;
 mod reading;
-mod streams;
+mod waits;
 
 pub use files::HostFiles;
 pub use listening::{Host, HostDoor};
+pub use machine::{Look, Machine, Stream};
 pub use patience::Patient;
-pub use reading::{HostFile, ReadFiles};
-pub use streams::{StandardStreams, without_streams};
+pub use reading::ReadFiles;

@@ -77,15 +77,17 @@ module _ {D R V : Type 0} (ways : Ways D R V) where
   numbered_more number [] c all sent given = (omega (arith, sent), omega (arith, given), tt)
   numbered_more number (d ∷ cs) c all sent given = (all.0, all.1, numbered_more (number + 1) cs c all.2 (omega (arith, sent)) (omega (arith, given)))
 
-  each_more : {S : Type 0} (state : S → State) (cs : List (Connection R V)) (c : Connection R V) (old mid new : S)
-      → ServesEach ways state cs old mid → ServesOne ways state mid new c → ServesEach ways state (cs ++ c ∷ []) old new
-  each_more {S} state [] c old mid new same one = (new, subst (λ (d : S). ServesOne ways state d new c) same one, refl)
-  each_more state (d ∷ cs) c old mid new each one = (each.0, each.1, each_more state cs c each.0 mid new each.2 one)
+  each_more : {S : Type 0} (state : S → State) (cs : List (Connection R V)) (c : Connection R V) (old mid new : S) (door last new_door : D)
+      → ServesEach ways state cs old mid door last → ServesOne ways state mid new last new_door c → ServesEach ways state (cs ++ c ∷ []) old new door new_door
+  each_more {S} state [] c old mid new door last new_door same one =
+      (new, new_door, subst (λ (d : S). ServesOne ways state d new door new_door c) same.0 (subst (λ (d : D). ServesOne ways state mid new d new_door c) same.1 one), (refl, refl))
+  each_more state (d ∷ cs) c old mid new door last new_door each one =
+      (each.0, each.1, each.2, each_more state cs c each.0 mid new each.1 last new_door each.3 one)
 
   -- one more connection came
   pub serves_more : {S W : Type 0} (state : S → State) (old mid new : S) (contents : W → Option (List ℕ)) (first out new_out : Counted W) (begun door new_door : D) (count : ℕ) (outcome : Result Served DeskFault)
-      → ServesConnections ways state old mid contents first out begun count → ways.doors.accepted door ≡ ways.doors.accepted begun + count → ServesNext ways state mid new door new_door outcome → Prints contents out new_out (connection_line (count + 1) outcome)
-      → ServesConnections ways state old new contents first new_out begun (count + 1)
+      → ServesConnections ways state old mid contents first out begun door count → ways.doors.accepted door ≡ ways.doors.accepted begun + count → ServesNext ways state mid new door new_door outcome → Prints contents out new_out (connection_line (count + 1) outcome)
+      → ServesConnections ways state old new contents first new_out begun new_door (count + 1)
   serves_more state old mid new contents first out new_out begun door new_door count outcome so came next printed =
       let c = next.0 in
       let one = next.2 in
@@ -95,7 +97,7 @@ module _ {D R V : Type 0} (ways : Ways D R V) where
         connections = cs ++ c ∷ [];
         number = omega (arith, length-append cs (c ∷ []), so.number);
         numbered = numbered_more (ways.doors.accepted begun + 1) cs c so.numbered (omega (arith, next.4, came, so.number)) (omega (arith, next.5, came, so.number));
-        each = each_more state cs c old mid new so.each one;
+        each = each_more state cs c old mid new begun door new_door so.each one;
         counted = counted_more cs c so.counted one.count;
         answers =
             subst (λ (ps : List Part). AreAnswered state ps (replies_given (cs ++ c ∷ [])) old new) (sym (parts_more cs c))
@@ -109,24 +111,28 @@ module _ {D R V : Type 0} (ways : Ways D R V) where
       }
 
   -- none came yet
-  pub serves_none : {S W : Type 0} (state : S → State) (desk : S) (contents : W → Option (List ℕ)) (out : Counted W) (door : D) → ServesConnections ways state desk desk contents out out door 0
+  pub serves_none : {S W : Type 0} (state : S → State) (desk : S) (contents : W → Option (List ℕ)) (out : Counted W) (door : D) → ServesConnections ways state desk desk contents out out door door 0
   serves_none state desk contents out door = record {
     connections = [];
     number = refl;
     numbered = tt;
-    each = refl;
+    each = (refl, refl);
     counted = tt;
     answers = none_answered state desk;
     printed = inr (refl, appends_nothing (contents (inner_of out)));
   }
 
-  -- what is known of a connection is that it was served from its two ways
-  module _ {S : Type 0} (state : S → State) (desk new_desk : S) (reader new_reader : Counted R) (writer new_writer : Counted V) where
-    one_served : (c : Connection R V) → (inner_of reader ≡ c.sent) × (inner_of writer ≡ c.given)
+  -- what is known of a connection is that it was served from its two ways, between a door that let it in and one that took them back
+  module _ {S : Type 0} (state : S → State) (desk new_desk : S) (door open_door new_door : D) (reader new_reader : Counted R) (writer new_writer : Counted V) where
+    one_served : (c : Connection R V) → ways.doors.admits door c.sent c.given open_door → ways.doors.parts open_door (inner_of new_reader) (inner_of new_writer) new_door
+        → (inner_of reader ≡ c.sent) × (inner_of writer ≡ c.given)
         → IfOk c.outcome (IsServedSo ways state desk new_desk reader writer new_writer c) → IfErr c.outcome (IsGivenUpSo ways state desk new_desk reader new_reader writer new_writer c)
         → OnOk c.outcome (NeitherFails reader new_reader writer new_writer) → KeepsTurns ways.sent reader new_reader most_turns
-        → requests_of c.outcome ≡ length c.parts → AreAnswered state c.parts c.replies desk new_desk → ServesOne ways state desk new_desk c
-    one_served c begins served given_up kept turns count answers = record {
+        → requests_of c.outcome ≡ length c.parts → AreAnswered state c.parts c.replies desk new_desk → ServesOne ways state desk new_desk door new_door c
+    one_served c admitted parted begins served given_up kept turns count answers = record {
+      open_door = open_door;
+      admitted = admitted;
+      parted = parted;
       reader = reader;
       new_reader = new_reader;
       writer = writer;
@@ -141,14 +147,15 @@ module _ {D R V : Type 0} (ways : Ways D R V) where
     }
 
     -- a connection that was served from its ways, or given up, is one with the requests of which that is told
-    pub serves_one : (sent : R) (given : V) (outcome : Result Served DeskFault) → inner_of reader ≡ sent → inner_of writer ≡ given
+    pub serves_one : (sent : R) (given : V) (outcome : Result Served DeskFault) → ways.doors.admits door sent given open_door
+        → ways.doors.parts open_door (inner_of new_reader) (inner_of new_writer) new_door → inner_of reader ≡ sent → inner_of writer ≡ given
         → IfOk outcome (IsServed state ways.sent ways.given desk new_desk reader writer new_writer)
         → IfErr outcome (IsGivenUp state ways.sent ways.given desk new_desk reader new_reader writer new_writer most_turns)
         → OnOk outcome (NeitherFails reader new_reader writer new_writer) → KeepsTurns ways.sent reader new_reader most_turns
-        → (c : Connection R V) × (c.outcome ≡ outcome) × (c.sent ≡ sent) × (c.given ≡ given) × ServesOne ways state desk new_desk c
-    serves_one sent given (Ok served) reads writes is none kept turns =
+        → (c : Connection R V) × (c.outcome ≡ outcome) × (c.sent ≡ sent) × (c.given ≡ given) × ServesOne ways state desk new_desk door new_door c
+    serves_one sent given (Ok served) admitted parted reads writes is none kept turns =
         let c : Connection R V = record { sent = sent; given = given; parts = is.parts; replies = is.replies; outcome = Ok served } in
-        (c, refl, refl, refl, one_served c (reads, writes) (is, refl, refl) tt kept turns is.count is.answers)
-    serves_one sent given (Err fault) reads writes none is kept turns =
+        (c, refl, refl, refl, one_served c admitted parted (reads, writes) (is, refl, refl) tt kept turns is.count is.answers)
+    serves_one sent given (Err fault) admitted parted reads writes none is kept turns =
         let c : Connection R V = record { sent = sent; given = given; parts = is.breaks.parts; replies = is.breaks.replies; outcome = Err fault } in
-        (c, refl, refl, refl, one_served c (reads, writes) tt (is, refl, refl) kept turns is.breaks.count is.breaks.answers)
+        (c, refl, refl, refl, one_served c admitted parted (reads, writes) tt (is, refl, refl) kept turns is.breaks.count is.breaks.answers)

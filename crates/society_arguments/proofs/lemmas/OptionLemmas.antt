@@ -11,12 +11,18 @@ use Rattle.clap.specs.declared.builder.command.Command.{Command}
 use Rattle.clap.specs.declared.builder.command.Command.TheViews.{out-Command}
 use Rattle.clap.specs.declared.builder.value_parser.ValueParser.{ValueParser}
 use Rattle.clap.specs.declared.builder.value_parser.ValueParser.TheVariants as parser
-use Rattle.society_arguments.specs.CommandLine.{number_option, required_option}
+use Rattle.society_arguments.specs.CommandLine.{free_number_option, free_option, number_option, required_option}
 
 -- a required option with a parser of numbers within limits
 pub numbered : (a b : Arg) (name : List ℕ) (q : ValueParser) (least most : ℕ) → rule_of a ≡ required_option name → b ≡ record a { value_parser = b.value_parser }
     → b.value_parser ≡ Some q → q ≡ parser.Signed (pos least) (pos most) → rule_of b ≡ number_option name least most
 numbered a b name q least most rule others given is =
+    ap rule_of others ∙ ap₂ (λ (r : Rule) p. record r { parser = p }) rule (given ∙ ap Some is)
+
+-- an option that may be given, with such a parser
+pub free_numbered : (a b : Arg) (name : List ℕ) (q : ValueParser) (least most : ℕ) → rule_of a ≡ free_option name → b ≡ record a { value_parser = b.value_parser }
+    → b.value_parser ≡ Some q → q ≡ parser.Signed (pos least) (pos most) → rule_of b ≡ free_number_option name least most
+free_numbered a b name q least most rule others given is =
     ap rule_of others ∙ ap₂ (λ (r : Rule) p. record r { parser = p }) rule (given ∙ ap Some is)
 
 -- a command with one more option

@@ -3,7 +3,6 @@ use Rattle.std.proofs.Common.{◌≡◌, ◌∙◌, ℕ, IsTrue, Result, arith, 
 use Rattle.share_rules.specs.declared.office.Office.{Office}
 use Rattle.sqlite.proofs.Callers.{survives_begin}
 use Rattle.sqlite.proofs.StateLemmas.{survives_then}
-use Rattle.sqlite.specs.Effect.{Database}
 use Rattle.sqlite.specs.Held.{Held, state}
 use Rattle.sqlite.specs.State.{HasCleanDisk, IsRolledBack, State, Survives}
 use Rattle.sqlite_trees.specs.Tree.{Trees}
@@ -12,7 +11,6 @@ use Rattle.society_rows.specs.declared.fault.RowFault.{RowFault}
 use Rattle.society_book.proofs.lemmas.together.StepLemmas.{still}
 use Rattle.society_book.specs.Steps.{Looks}
 use Rattle.society_opening.specs.Existing.{FindsSoundly}
-use Rattle.society_opening.specs.Opening.{ShowsAs}
 use Rattle.society_commands.specs.Connections.{CreditsOver, KeepsShown}
 
 -- readings in a transaction that was rolled back

@@ -1,4 +1,4 @@
-use Rattle.std.proofs.Common.{arith, rules}
+use Rattle.std.proofs.Common.{arith}
 use Rattle.sqlite.specs.Held.{state}
 use Rattle.society_commands.proofs.lemmas.CreditLemmas.{audited_then}
 use Rattle.society_commands.proofs.crediting.credit_database.Goals as goal

@@ -1,4 +1,3 @@
-use Rattle.std.proofs.Common.{rules}
 use Rattle.sqlite.specs.Held.{state}
 use Rattle.society_commands.proofs.lemmas.CreditLemmas.{kept_still}
 use Rattle.society_commands.proofs.crediting.credit_tables.Goals as goal

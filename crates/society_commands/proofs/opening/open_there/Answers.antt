@@ -12,3 +12,6 @@ returns-in-Ok-clause-opened g c = record {
     | else-database w ↦ absurd (false≢true (sym w.if-database.false ∙ existing))
   ];
 }
+
+pub returns-in-Ok-clause-warned : goal.returns-in-Ok-clause-warned
+returns-in-Ok-clause-warned g c = (c.in-Ok.others_write, c.in-Ok.ensures.shared, c.warn.ensures)

@@ -1,7 +1,9 @@
 use Rattle.std.proofs.Common.{inr, refl}
 use Rattle.society_arguments.proofs.lemmas.WordLemmas.{asks_for, asks_to_audit, asks_to_credit, asks_to_serve, audit_not_wrong, audit_read, credit_not_wrong, credit_read, name_is_wrong, read_no_help, refused_audit, refused_credit, refused_replay, refused_serving, replay_not_wrong, replay_read, serve_not_wrong, serving_read, words_are_wrong}
 use Rattle.society_arguments.specs.Words.{serving_of}
-use Rattle.society_commands.proofs.lemmas.UnusedLemmas.{audits, credits, serves, unused}
+use Rattle.society_commands.proofs.lemmas.UnusedLemmas.{audits, credit_reads, credits, replay_reads, serves, serves_somewhere, unheard, unread, unused}
+use Rattle.society_commands.proofs.lemmas.WarnedLemmas.{audit_told, credit_told, refused_told, replay_told, serving_told}
+use Rattle.society_commands.specs.declared.left.Left.TheVariants as left
 use Rattle.society_commands.proofs.starting.start.Goals as goal
 
 pub returns-in-Ok-Replay-clause-wrong : goal.returns-in-Ok-Replay-clause-wrong
@@ -248,3 +250,60 @@ returns-in-Ok-Credit-clause-turns g c = λ wants. absurd (replay_read _ _ (rw c.
 
 pub returns-in-Ok-BadName-clause-turns : goal.returns-in-Ok-BadName-clause-turns
 returns-in-Ok-BadName-clause-turns g c = λ wants. absurd (replay_read _ _ (rw c.in-Ok-BadName.field-0-is at c.in-Ok-BadName.ensures.ok) wants)
+
+pub returns-in-Ok-Serve-clause-quiet : goal.returns-in-Ok-Serve-clause-quiet
+returns-in-Ok-Serve-clause-quiet g c = λ zero. serving_told g.O.OpenDatabase g.E.Write.contents c.args.err.now c.serve_file-status.new.err c.serve_file-status.result.1 _ c.in-Ok-Serve.database c.in-Ok-Serve.place c.in-Ok-Serve.office (rw c.in-Ok-Serve.field-0-is at c.in-Ok-Serve.ensures.ok) (c.serve_file-status.ensures.quiet zero)
+
+pub returns-in-Ok-Audit-clause-quiet : goal.returns-in-Ok-Audit-clause-quiet
+returns-in-Ok-Audit-clause-quiet g c = λ zero. audit_told g.O.OpenDatabase g.E.Write.contents c.args.err.now c.audit_file-status.new.err c.audit_file-status.result.1 _ c.in-Ok-Audit.path c.in-Ok-Audit.office (rw c.in-Ok-Audit.field-0-is at c.in-Ok-Audit.ensures.ok) (c.audit_file-status.ensures.quiet zero)
+
+pub returns-in-Ok-Credit-clause-quiet : goal.returns-in-Ok-Credit-clause-quiet
+returns-in-Ok-Credit-clause-quiet g c = λ zero. credit_told g.O.OpenDatabase g.E.Write.contents c.args.err.now c.credit_file-status.new.err c.credit_file-status.result.1 _ c.in-Ok-Credit.path c.in-Ok-Credit.office (rw c.in-Ok-Credit.field-0-is at c.in-Ok-Credit.ensures.ok) (c.credit_file-status.ensures.quiet zero)
+
+pub returns-in-Ok-Replay-clause-quiet : goal.returns-in-Ok-Replay-clause-quiet
+returns-in-Ok-Replay-clause-quiet g c = λ zero. replay_told {g = g.O.File.Disk} g.O.OpenDatabase g.E.Write.contents c.args.err.now c.replay-status.new.err (left.Unused c.args.opener) _ c.in-Ok-Replay.office (rw c.in-Ok-Replay.field-0-is at c.in-Ok-Replay.ensures.ok) (c.replay-status.ensures.quiet zero)
+
+pub returns-in-Err-clause-quiet : goal.returns-in-Err-clause-quiet
+returns-in-Err-clause-quiet g c = refused_told {g = g.O.File.Disk} g.O.OpenDatabase g.E.Write.contents c.args.err.now c.explain.new.err (left.Unused c.args.opener) _ _ c.explain.result c.in-Err.ensures.err c.explain.ensures.memory c.explain.ensures.quiet
+
+pub returns-in-Ok-Serve-clause-unheard : goal.returns-in-Ok-Serve-clause-unheard
+returns-in-Ok-Serve-clause-unheard g c = serves_somewhere _ _ _ c.in-Ok-Serve.database c.in-Ok-Serve.place c.in-Ok-Serve.office (rw c.in-Ok-Serve.field-0-is at c.in-Ok-Serve.ensures.ok)
+
+pub returns-in-Ok-Replay-clause-unread : goal.returns-in-Ok-Replay-clause-unread
+returns-in-Ok-Replay-clause-unread g c = replay_reads _ _ _ c.in-Ok-Replay.office (rw c.in-Ok-Replay.field-0-is at c.in-Ok-Replay.ensures.ok)
+
+pub returns-in-Ok-Credit-clause-unread : goal.returns-in-Ok-Credit-clause-unread
+returns-in-Ok-Credit-clause-unread g c = credit_reads _ _ _ c.in-Ok-Credit.path c.in-Ok-Credit.office (rw c.in-Ok-Credit.field-0-is at c.in-Ok-Credit.ensures.ok)
+
+pub returns-in-Ok-Replay-clause-unheard : goal.returns-in-Ok-Replay-clause-unheard
+returns-in-Ok-Replay-clause-unheard g c = unheard _ _ _ refl
+
+pub returns-in-Ok-Audit-clause-unheard : goal.returns-in-Ok-Audit-clause-unheard
+returns-in-Ok-Audit-clause-unheard g c = unheard _ _ _ refl
+
+pub returns-in-Ok-Credit-clause-unheard : goal.returns-in-Ok-Credit-clause-unheard
+returns-in-Ok-Credit-clause-unheard g c = unheard _ _ _ refl
+
+pub returns-in-Ok-BadName-clause-unheard : goal.returns-in-Ok-BadName-clause-unheard
+returns-in-Ok-BadName-clause-unheard g c = unheard _ _ _ refl
+
+pub returns-in-Ok-BadWords-clause-unheard : goal.returns-in-Ok-BadWords-clause-unheard
+returns-in-Ok-BadWords-clause-unheard g c = unheard _ _ _ refl
+
+pub returns-in-Err-clause-unheard : goal.returns-in-Err-clause-unheard
+returns-in-Err-clause-unheard g c = unheard _ _ _ refl
+
+pub returns-in-Ok-Serve-clause-unread : goal.returns-in-Ok-Serve-clause-unread
+returns-in-Ok-Serve-clause-unread g c = unread _ _ _ refl
+
+pub returns-in-Ok-Audit-clause-unread : goal.returns-in-Ok-Audit-clause-unread
+returns-in-Ok-Audit-clause-unread g c = unread _ _ _ refl
+
+pub returns-in-Ok-BadName-clause-unread : goal.returns-in-Ok-BadName-clause-unread
+returns-in-Ok-BadName-clause-unread g c = unread _ _ _ refl
+
+pub returns-in-Ok-BadWords-clause-unread : goal.returns-in-Ok-BadWords-clause-unread
+returns-in-Ok-BadWords-clause-unread g c = unread _ _ _ refl
+
+pub returns-in-Err-clause-unread : goal.returns-in-Err-clause-unread
+returns-in-Err-clause-unread g c = unread _ _ _ refl

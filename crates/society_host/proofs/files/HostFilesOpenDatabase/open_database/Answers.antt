@@ -1,13 +1,13 @@
 use Rattle.society_host.proofs.lemmas.RefusalLemmas.{refuses}
 use Rattle.society_host.proofs.files.HostFilesOpenDatabase.open_database.Goals as goal
 
-pub returns-in-Ok-open_from-clause-opened : goal.returns-in-Ok-open_from-clause-opened
-returns-in-Ok-open_from-clause-opened g c = (
+pub returns-in-Ok-open_at-clause-opened : goal.returns-in-Ok-open_at-clause-opened
+returns-in-Ok-open_at-clause-opened g c = (
   record {
     shows = λ clean.
-        let o = c.in-Ok-open_from.ensures.opened clean in
-        (o.0, o.1, c.in-Ok-open_from.ensures.found clean);
-    sums = c.in-Ok-open_from.ensures.sums;
+        let o = c.in-Ok-open_at.ensures.opened clean in
+        (o.0, o.1, c.in-Ok-open_at.ensures.found clean);
+    sums = c.in-Ok-open_at.ensures.sums;
   },
   c.in-Ok-examine.ensures.examined,
 )

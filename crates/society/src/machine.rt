@@ -1,0 +1,200 @@
+//! The machine that the program runs on. What the program does to it, it does by these calls and by its standard streams.
+ghost use Rattle.std.specs.Prelude.{[], IfErr, false};
+ghost use Rattle.society_host.specs.Refusals.{IsToldOfNone};
+
+use log_reading::ReadAt;
+use society_host::{Look, Machine, ReadFiles, Stream};
+use society_opening::OpenFault;
+use sqlite::{Connection, Error, FileFrom, FileStore, Leftover, Start};
+use std::alloc::Global;
+use std::fs::{self, File, Permissions};
+use std::io::{self, ErrorKind, Read, Write};
+use std::net::{Shutdown, SocketAddrV4, TcpListener, TcpStream};
+use std::os::unix::fs::{FileExt, PermissionsExt};
+use std::time::{Clock, Duration};
+
+/// Who may read and write what is made private: its owner alone.
+const OWN: u32 = 0o600;
+
+/// That group or others may write a file.
+const OTHERS_WRITE: u32 = 0o022;
+
+/// The machine of a runtime.
+#[derive(Clone, Copy)]
+pub struct ThisMachine<'a> {
+    runtime: &'a HostRuntime,
+}
+
+impl<'a> ThisMachine<'a> {
+    /// The machine of this runtime.
+    pub fn new(runtime: &'a HostRuntime) -> ThisMachine<'a> {
+        ThisMachine { runtime }
+    }
+}
+
+impl<'a> Clock for ThisMachine<'a> {
+    fn monotonic(&self) -> io::Result<Duration> {
+        self.runtime.monotonic()
+    }
+
+    fn since_1970(&self) -> io::Result<Duration> {
+        self.runtime.since_1970()
+    }
+
+    fn sleep(&self, duration: Duration) {
+        self.runtime.sleep(duration)
+    }
+}
+
+impl<'a> Machine for ThisMachine<'a> {
+    type Listener = TcpListener;
+
+    type Stream = Socket;
+
+    // No clause of the system's ties a listener to its address.
+    ghost listens_at = { λ address listener. Unit {0} };
+
+    ghost may_fail_at = { λ address. Unit {0} };
+
+    fn alloc(&self) -> Global {
+        self.runtime.alloc()
+    }
+
+    fn look(&self, path: &str) -> io::Result<Look> {
+        let found = fs::metadata(self.runtime, path)?;
+        Ok(Look {
+            is_file: found.is_file(),
+            len: found.len(),
+            others_write: found.permissions().mode() & OTHERS_WRITE != 0,
+        })
+    }
+
+    fn make_private(&self, path: &str) {
+        let _ = fs::set_permissions(self.runtime, path, Permissions::from_mode(OWN));
+    }
+
+    fn open_at<S: Start>(
+        &self,
+        path: &str,
+        new_has_sums: bool,
+        start: S,
+    ) -> Result<Connection<FileStore<FileFrom<S>>>, (Error, Option<Leftover<FileFrom<S>>>)> {
+        Connection::open_from(self.runtime, path, new_has_sums, start)
+    }
+
+    fn bind(&self, address: SocketAddrV4) -> io::Result<TcpListener> {
+        TcpListener::bind(self.runtime, address)
+    }
+
+    fn accept(&self, listener: &TcpListener) -> io::Result<Socket> {
+        let (stream, _) = listener.accept()?;
+        Ok(Socket { stream })
+    }
+}
+
+/// One handle of a connection.
+#[derive(Drop)]
+pub struct Socket {
+    stream: TcpStream,
+}
+
+impl Read for Socket {
+    fn read(&mut self, buffer: &mut [u8]) -> io::Result<usize> {
+        self.stream.read(buffer)
+    }
+}
+
+impl Write for Socket {
+    fn write(&mut self, bytes: &[u8]) -> io::Result<usize> {
+        self.stream.write(bytes)
+    }
+
+    fn flush(&mut self) -> io::Result<()> {
+        self.stream.flush()
+    }
+}
+
+impl Stream for Socket {
+    fn another(&self) -> io::Result<Socket> {
+        let stream = self.stream.try_clone()?;
+        Ok(Socket { stream })
+    }
+
+    fn bound_waits(&self, wait: Duration) -> io::Result<()> {
+        self.stream.set_read_timeout(Some(wait))?;
+        self.stream.set_write_timeout(Some(wait))
+    }
+
+    fn shut_writing(&self) -> io::Result<()> {
+        self.stream.shutdown(Shutdown::Write)
+    }
+}
+
+/// A file that is read. No clause of the system's says what it holds.
+#[derive(Drop)]
+pub struct ReadFile {
+    file: File,
+}
+
+impl ReadAt for ReadFile {
+    ghost bytes = { λ _. [] };
+
+    ghost is_known = { λ _. false };
+
+    fn len(&self) -> io::Result<usize> {
+        let found = self.file.metadata()?;
+        Ok(found.len() as usize)
+    }
+
+    fn read_at(&self, at: usize, buffer: &mut [u8]) -> io::Result<()> {
+        self.file.read_exact_at(buffer, at as u64)
+    }
+}
+
+impl<'a> ReadFiles for ThisMachine<'a> {
+    type File = ReadFile;
+
+    // No clause of the system's ties a path to a file.
+    ghost is_file = { λ path file. Unit {0} };
+
+    ghost is_log = { λ path file. Unit {0} };
+
+    ghost lacks_file = { λ path. Unit {0} };
+
+    ghost lacks_log = { λ path. Unit {0} };
+
+    fn file_at(&self, path: &str) -> Result<Option<ReadFile>, OpenFault> {
+        open(self.runtime, path)
+    }
+
+    fn log_at(&self, path: &str) -> Result<Option<ReadFile>, OpenFault> {
+        let real = match fs::canonicalize(self.runtime, path) {
+            Ok(real) => real,
+            Err(error) => return absent(error.kind()),
+        };
+        let Ok(log) = format!(in self.runtime.alloc(); "{}-wal", real.as_str()) else {
+            return Err(OpenFault::Memory);
+        };
+        open(self.runtime, log.as_str())
+    }
+}
+
+/// The file at a path, to be read, if there is one.
+fn open(runtime: &HostRuntime, path: &str) -> Result<Option<ReadFile>, OpenFault>
+    ensures { IfErr result IsToldOfNone }
+{
+    match File::open(runtime, path) {
+        Ok(file) => Ok(Some(ReadFile { file })),
+        Err(error) => absent(error.kind()),
+    }
+}
+
+/// That there is no file, where the error says so.
+fn absent(kind: ErrorKind) -> Result<Option<ReadFile>, OpenFault>
+    ensures { IfErr result IsToldOfNone }
+{
+    match kind {
+        ErrorKind::NotFound => Ok(None),
+        _ => Err(OpenFault::Store),
+    }
+}
