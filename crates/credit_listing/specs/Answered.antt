@@ -5,7 +5,7 @@ use Rattle.std.specs.Io.KnownBytes.{Appends}
 use Rattle.std.specs.declared.alloc.Global.{Global}
 use Rattle.csv.specs.Writing.{default_writer, row_text}
 use Rattle.desk_connections.specs.Connections.{Prints}
-use Rattle.http_desk.specs.Counted.{inner_of}
+use Rattle.http_desk.specs.Counted.{Known, inner_of}
 use Rattle.http_desk.specs.declared.counted.Counted.{Counted}
 use Rattle.share_rules.specs.declared.office.Office.{Office}
 use Rattle.society_book.specs.Shown.{ByOwnBook}
@@ -15,6 +15,7 @@ use Rattle.society_core.specs.declared.refusal.Refusal.TheVariants as refusals
 use Rattle.sqlite_trees.specs.Tree.{Trees}
 use Rattle.order_credits.specs.Refused.{credit_answer, listed}
 use Rattle.order_credits.specs.declared.share.RecordingShare.{RecordingShare}
+use Rattle.credit_listing.specs.Lines.{AreRead}
 use Rattle.credit_listing.specs.Rows.{listing_columns, shares_text}
 use Rattle.credit_listing.specs.Spelled.{AreWanted, Spelled, order_on_line}
 use Rattle.credit_listing.specs.Told.{refusal_line}
@@ -49,10 +50,13 @@ TellsLines {W = W} {E = E} office db contents says number (line ∷ lines) out n
     (answer : Answer) × (between_out : Counted W) × (between_err : Counted E) × AnswersLine office line db answer
     × TellsAnswer contents out between_out says err between_err number answer × TellsLines office db contents says (number + 1) lines between_out new_out between_err new_err
 
--- the columns were written, and then lines were answered by tables and told; where each was answered by rows, nothing was said elsewhere
-pub record ListsCredits {W E : Type 0} (office : Office) (contents : W → Option (List ℕ)) (says : E → Option (List ℕ)) (out new_out : Counted W) (err new_err : Counted E)
+-- all that a reader gave was read, line by line; the columns were written, and then the lines were answered by tables and told; where each was
+-- answered by rows, nothing was said elsewhere
+pub record ListsCredits {R W E : Type 0} (office : Office) (remaining : Known R) (contents : W → Option (List ℕ)) (says : E → Option (List ℕ))
+    (reader new_reader : Counted R) (out new_out : Counted W) (err new_err : Counted E)
     (db : Trees) (all : Bool) : Type 0 where
   pub lines : List (List ℕ)
+  pub read : AreRead remaining reader new_reader lines
   pub begun : Counted W
   pub columns : Appends (contents (inner_of out)) (contents (inner_of begun)) (row_text default_writer listing_columns)
   pub told : TellsLines office db contents says 1 lines begun new_out err new_err

@@ -1,4 +1,5 @@
 pub mod Answered
+pub mod Lines
 pub mod Listed
 pub mod Rows
 pub mod Spelled

@@ -1,6 +1,9 @@
 //! Lines of a reader.
-ghost use Rattle.std.specs.Prelude.{◌≡◌, ◌≤◌, length, IfOk};
+ghost use Rattle.std.specs.Prelude.{◌≡◌, ◌≤◌, [], false, length, take, IfOk, OnOk};
+ghost use Rattle.std.specs.Io.KnownBytes.{IsAtEnd};
+ghost use Rattle.http_desk.specs.Counted.{inner_of};
 ghost use Rattle.http_desk.specs.Input.{unread};
+ghost use Rattle.credit_listing.specs.Lines.{Comes, IsLine};
 
 use http_desk::{Counted, FaultKind, Input};
 use memchr::memchr;
@@ -19,6 +22,9 @@ pub(crate) fn next_line<R: Read>(
     reader: &mut Counted<R>,
 ) -> Result<usize, FaultKind>
     ensures within { IfOk result (λ count. count ≤ length (unread input.new)) }
+    ensures line { IfOk result (λ count. IsLine (take count (unread input.new))) }
+    ensures came { OnOk result (Comes R.remaining reader.old reader.new input.old input.new) }
+    ensures ended { IfOk result (λ count. count ≡ 0 → (unread input.new ≡ []) × IsAtEnd (R.remaining (inner_of reader.new))) }
 {
     let mut seen = 0;
     for _ in 0..u64::MAX {
@@ -41,6 +47,8 @@ fn read_on<R: Read>(
 ) -> Result<bool, FaultKind>
     requires { seen ≡ length (unread input.old) }
     ensures more { IfOk result (λ _. seen ≤ length (unread input.new)) }
+    ensures came { OnOk result (Comes R.remaining reader.old reader.new input.old input.new) }
+    ensures ended { IfOk result (λ more. more ≡ false → (unread input.new ≡ unread input.old) × IsAtEnd (R.remaining (inner_of reader.new))) }
 {
     if seen > MAX_LINE {
         return Err(FaultKind::Memory);

@@ -77,7 +77,7 @@ pub fn list_credits<S: Alter, R: Read, W: Write, E: Write>(
     err: &mut Counted<E>,
 ) -> Result<Result<bool, DeskFault>, RowFault>
     ensures looks { Within S.Store tx.old tx.new Looks result
-        (λ db listed. IfOk listed (ListsCredits office.now W.contents E.contents out.old out.new err.old err.new db)) }
+        (λ db listed. IfOk listed (ListsCredits office.now R.remaining W.contents E.contents reader.old reader.new out.old out.new err.old err.new db)) }
     ensures quiet { IfOk result (λ listed. listed ≡ Ok true → err.new ≡ err.old) }
 {
     let (Ok(columns), Ok(mut input)) = (columns_text(alloc), Input::new(alloc, READS)) else {

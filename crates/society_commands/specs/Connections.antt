@@ -5,6 +5,7 @@ use Rattle.std.specs.declared.net.socket_addr.SocketAddrV4.{SocketAddrV4}
 use Rattle.http_desk.specs.Serves.{AreAnswered}
 use Rattle.http_desk.specs.declared.counted.Counted.{Counted}
 use Rattle.share_rules.specs.declared.office.Office.{Office}
+use Rattle.credit_listing.specs.Answered.{ListsCredits}
 use Rattle.sqlite.specs.Files.{file_state}
 use Rattle.sqlite.specs.Held.{Held, IsNew}
 use Rattle.sqlite.specs.State as connection
@@ -175,23 +176,34 @@ pub record KeepsShown (old new : connection.State) : Type 0 where
   pub shown : connection.HasCleanDisk new → IsTrue new.is_open → (new.now ≡ old.committed) × (new.committed ≡ old.committed)
   pub crash : connection.Survives old new (λ db. ⊥)
 
--- What telling of orders leaves of a database that a connection was found with: what was committed is shown still, and is a sound book of
--- the office, of layout 3, where all were answered; a crash leaves what it left before.
-pub record CreditsOver (office : Office) (found left : connection.State) (status : ℕ) : Type 0 where
+-- by the tables of a database, where it has layout 3, this was listed
+abbrev pub ListsOver : connection.State → connection.State → (Trees → Type 0) → Type 0
+ListsOver old new Lists = connection.HasCleanDisk new → HasLayout old.now → Lists old.now.trees
+
+-- all that a reader gave was listed by tables, and each line was answered by rows
+abbrev pub ListsAll : {R W : Type 0} → (E : Type 0) → (E → Option (List ℕ)) → Office → (R → Option (List ℕ)) → (W → Option (List ℕ)) → Counted R → Counted R
+    → Counted W → Counted W → Trees → Type 0
+ListsAll E says office remaining contents reader new_reader out new_out db =
+    (err : Counted E) × (new_err : Counted E) × ListsCredits office remaining contents says reader new_reader out new_out err new_err db true
+
+-- What telling of orders leaves of a database that a connection was found with: what was committed is shown still, and a crash leaves what it
+-- left before. Where all were answered it is a sound book of the office, of layout 3 or an older one, and this was listed by it.
+pub record CreditsOver (office : Office) (found left : connection.State) (status : ℕ) (Lists : Trees → Type 0) : Type 0 where
   pub shown : WhenOpen found left (ShowsAs found.committed left)
   pub sound : status ≡ 0 → WhenOpen found left (IsSoundIn office found.committed)
+  pub listed : status ≡ 0 → WhenOpen found left (IsTrue left.is_open → Lists found.committed.trees)
   pub crash : connection.Survives found left (λ db. ⊥)
 
 -- a database that was there was opened at a path, orders were told of over it with this status, and its connection is left
-abbrev pub CreditsOpened : {O F : Type 0} {g : disk.Ghosts F} → Opens O F → List ℕ → Office → ℕ → Left F O g → Type 0
-CreditsOpened {F = F} {g = g} opens path office status rest =
+abbrev pub CreditsOpened : {O F : Type 0} {g : disk.Ghosts F} → Opens O F → List ℕ → Office → ℕ → (Trees → Type 0) → Left F O g → Type 0
+CreditsOpened {F = F} {g = g} opens path office status Lists rest =
     (conn : Held (FileStore F g)) × IsOpenedAt opens path true conn
-    × ((ended : Held (FileStore F g)) × CreditsOver office (file_state conn) (file_state ended) status × (rest ≡ left.Connection ended))
+    × ((ended : Held (FileStore F g)) × CreditsOver office (file_state conn) (file_state ended) status Lists × (rest ≡ left.Connection ended))
 
 -- no database was opened at a path to tell of orders, and this was told, and nothing written; or one was, and not all was done
 abbrev pub StopsCrediting : {O F W : Type 0} {g : disk.Ghosts F} → Opens O F → O → List ℕ → Office → Counted W → Counted W → (Trouble → Type 0) → Left F O g → Type 0
 StopsCrediting opens opener path office out new_out Told rest =
-    ((fault : OpenFault) × LeavesRefused opens opener path true fault rest × Told (Database fault) × (new_out ≡ out)) ⊎ CreditsOpened opens path office 1 rest
+    ((fault : OpenFault) × LeavesRefused opens opener path true fault rest × Told (Database fault) × (new_out ≡ out)) ⊎ CreditsOpened opens path office 1 (λ db. ⊤) rest
 
 -- so many connections were served over a store that was opened over what a connection was found with, and this is the store behind them
 abbrev pub ServesDatabase : {N D R V S W : Type 0} → Network N D R V → (S → State) → Office → Bool → connection.State → S → (W → Option (List ℕ))

@@ -1,17 +1,21 @@
 -- What telling of orders leaves of a database.
-use Rattle.std.proofs.Common.{◌≡◌, ◌∙◌, ℕ, IsTrue, Result, arith, refl, true}
+use Rattle.std.proofs.Common.{◌≡◌, ◌∙◌, ℕ, Bool, Err, IsTrue, Ok, Result, arith, refl, subst, true}
+use Rattle.std.specs.Prelude.{⊤, IfOk}
+use Rattle.http_desk.specs.declared.fault.DeskFault.{DeskFault}
 use Rattle.share_rules.specs.declared.office.Office.{Office}
 use Rattle.sqlite.proofs.Callers.{survives_begin}
 use Rattle.sqlite.proofs.StateLemmas.{survives_then}
+use Rattle.sqlite.specs.Effect.{Database}
 use Rattle.sqlite.specs.Held.{Held, state}
 use Rattle.sqlite.specs.State.{HasCleanDisk, IsRolledBack, State, Survives}
 use Rattle.sqlite_trees.specs.Tree.{Trees}
 use Rattle.sqlite_trees.specs.declared.store.Store.{Ghosts}
+use Rattle.society_rows.specs.Stored.{HasLayout}
 use Rattle.society_rows.specs.declared.fault.RowFault.{RowFault}
 use Rattle.society_book.proofs.lemmas.together.StepLemmas.{still}
 use Rattle.society_book.specs.Steps.{Looks}
 use Rattle.society_opening.specs.Existing.{FindsSoundly}
-use Rattle.society_commands.specs.Connections.{CreditsOver, KeepsShown}
+use Rattle.society_commands.specs.Connections.{CreditsOver, KeepsShown, ListsOver}
 
 -- readings in a transaction that was rolled back
 pub kept_by : {S : Type 0} (g : Ghosts S) {X : Type 0} (old : Held S) (mid new : State) (result : Result X RowFault) (Found : Trees → X → Type 0)
@@ -28,14 +32,36 @@ kept_by g old mid new result Found looks rolled survives = record {
     early : HasCleanDisk new → HasCleanDisk mid
     early clean = (let fell = survives.clean in omega (clean, fell, arith))
 
+-- what those readings found
+pub listed_by : {S : Type 0} (g : Ghosts S) (old : Held S) (mid new : State) (result : Result (Result Bool DeskFault) RowFault) (Found : Trees → Result Bool DeskFault → Type 0) (Lists : Trees → Bool → Type 0)
+    → Looks (state g (record old { in_transaction = true })) mid result Found → Survives mid new (λ _. ⊥) → ((db : Trees) (listed : Result Bool DeskFault) → Found db listed → IfOk listed (Lists db))
+    → IfOk result (λ listed. IfOk listed (λ all. ListsOver (state g old) new (λ db. Lists db all)))
+listed_by g old mid new result Found Lists looks survives gives = under result (λ clean has. looks.says (early clean) refl has)
+  where
+    early : HasCleanDisk new → HasCleanDisk mid
+    early clean = (let fell = survives.clean in omega (clean, fell, arith))
+
+    inner : (listed : Result Bool DeskFault) → (HasCleanDisk new → HasLayout (state g old).now → IfOk listed (Lists (state g old).now.trees)) → IfOk listed (λ all. ListsOver (state g old) new (λ db. Lists db all))
+    inner (Ok all) says = λ clean has. says clean has
+    inner (Err fault) says = tt
+
+    under : (r : Result (Result Bool DeskFault) RowFault) → (HasCleanDisk new → HasLayout (state g old).now → IfOk r (λ listed. (mid.now ≡ (state g old).now) × Found (state g old).now.trees listed))
+        → IfOk r (λ listed. IfOk listed (λ all. ListsOver (state g old) new (λ db. Lists db all)))
+    under (Ok listed) says = inner listed (λ clean has. gives (state g old).now.trees listed (says clean has).1)
+    under (Err fault) says = tt
+
 -- behind an audit that found a sound book
-pub audited_then : (office : Office) (old mid new : State) (status : ℕ) → FindsSoundly office old mid → Survives old mid (λ _. ⊥) → KeepsShown mid new → CreditsOver office old new status
-audited_then office old mid new status sound first kept = record {
+pub audited_then : (office : Office) (old mid new : State) (status : ℕ) (Lists : Trees → Type 0) → FindsSoundly office old mid → Survives old mid (λ _. ⊥) → KeepsShown mid new
+    → (status ≡ 0 → HasCleanDisk new → Lists mid.now.trees) → CreditsOver office old new status Lists
+audited_then office old mid new status Lists sound first kept lists = record {
   shown = λ clean opened again.
       let shows = (sound (early clean) opened).1 (kept.was_open clean again) in
       let here = kept.shown clean again in
       (here.0 ∙ shows.1, here.1 ∙ shows.1);
   sound = λ zero clean opened. (sound (early clean) opened).0;
+  listed = λ zero clean opened again.
+      let shows = (sound (early clean) opened).1 (kept.was_open clean again) in
+      subst (λ (db : Database). Lists db.trees) shows.0 (lists zero clean);
   crash = survives_then old mid new (λ _. ⊥) (λ _. ⊥) (λ _. ⊥) (λ _ db none. none) (λ _ db none. none) first kept.crash;
 }
   where
@@ -45,3 +71,7 @@ audited_then office old mid new status sound first kept = record {
 -- nothing was done to a connection at rest
 pub kept_still : (s : State) → (IsTrue s.is_open → s.now ≡ s.committed) → KeepsShown s s
 kept_still s settled = record { was_open = λ clean opened. opened; shown = λ clean opened. (settled opened, refl); crash = still s }
+
+-- where not all were answered, nothing is said of what was listed
+pub over_any : (office : Office) (old new : State) (Lists : Trees → Type 0) → CreditsOver office old new 1 Lists → CreditsOver office old new 1 (λ db. ⊤)
+over_any office old new Lists over = record { shown = over.shown; sound = over.sound; listed = λ _ _ _ _. tt; crash = over.crash }

@@ -1,11 +1,13 @@
-use Rattle.std.proofs.Common.{◌≡◌, ◌∙◌, ◌+◌, ◌++◌, ◌∷◌, [], Ok, arith, length, rules, subst, take, ℕ}
+use Rattle.std.proofs.Common.{◌≡◌, ◌∙◌, ◌+◌, ◌++◌, ◌∷◌, [], Ok, arith, length, rules, subst, sym, take, ℕ, List}
 use Rattle.std.proofs.lemmas.List.{length-append}
 use Rattle.std.specs.Io.KnownBytes.{Appends}
 use Rattle.http_desk.specs.Counted.{inner_of}
 use Rattle.sqlite.specs.Held.{state}
 use Rattle.society_book.proofs.lemmas.together.StepLemmas.{looks_as, looks_then}
 use Rattle.credit_listing.specs.Answered.{AnswersLine, TellsAnswer}
+use Rattle.credit_listing.specs.Lines.{AreTaken}
 use Rattle.credit_listing.proofs.lemmas.AnsweredLemmas.{tells_more}
+use Rattle.credit_listing.proofs.lemmas.FeedLemmas.{all_read, taken_line}
 use Rattle.credit_listing.proofs.listing.list_credits.Goals as goal
 
 pub returns-in-Ok-eq0-clause-looks : goal.returns-in-Ok-eq0-clause-looks
@@ -15,6 +17,7 @@ returns-in-Ok-eq0-clause-looks g c = record {
       looks_as (state g.S.Store c.args.tx.now.conn.now) (state g.S.Store c.loop-done.tx.conn.now) tt (Ok (Ok c.loop-done.all)) _ _ c.loop-done.invariant.looks
       (λ it. record {
         lines = it.0;
+        read = all_read g.R.Read.remaining c.args.reader.now c.loop-done.reader c.next_line.new.reader c.loop-done.input c.next_line.new.input it.0 it.3 c.in-Ok-eq0.ensures.came (c.in-Ok-eq0.ensures.ended c.in-Ok-eq0.field-0-test).0 (c.in-Ok-eq0.ensures.ended c.in-Ok-eq0.field-0-test).1;
         begun = c.write_all.new.self;
         columns = subst (Appends (g.W.Write.contents (inner_of c.args.out.now)) (g.W.Write.contents (inner_of c.write_all.new.self))) (c.deref.ensures.value ∙ c.in-Ok-Ok.ensures) c.in-Ok.ensures.wrote;
         told = it.2;
@@ -41,6 +44,8 @@ loop-done-preserved g c = record {
         (let e = before.1 in omega (arith, length-append before.0 (line ∷ []), e)),
         tells_more office old.now.trees g.W.Write.contents g.E.Write.contents 1 before.0 line answer c.write_all.new.self c.loop-done.out c.write_answer.new.out c.args.err.now c.loop-done.err c.write_answer.new.err before.2 is
             (subst (λ (n : ℕ). TellsAnswer g.W.Write.contents c.loop-done.out c.write_answer.new.out g.E.Write.contents c.loop-done.err c.write_answer.new.err n answer) next told),
+        subst (λ (u : List ℕ). AreTaken g.R.Read.remaining c.args.reader.now c.next_line.new.reader c.take.new.self (before.0 ++ take c.in-Ok-next_line.length u ∷ [])) (sym c.unread.ensures)
+            (taken_line g.R.Read.remaining c.args.reader.now c.loop-done.reader c.next_line.new.reader c.loop-done.input c.next_line.new.input c.take.new.self before.0 c.in-Ok-next_line.length before.3 c.in-Ok-next_line.ensures.came c.in-Ok-next_line.ensures.line c.take.ensures.bytes),
       ));
   quiet = search rules;
 }

@@ -1,0 +1,103 @@
+-- Lines are found where their line feeds are, and are what came.
+use Rattle.std.proofs.Common.{◌≡◌, ◌∙◌, ◌+◌, ◌-◌, ◌<◌, ◌≤◌, ℕ, List, [], ◌∷◌, ◌++◌, ⊎_elim, ap, append_assoc, append-nil, arith, drop, length, refl, subst, sym, take, true}
+use Rattle.std.proofs.Math.ListN.{get_or-append}
+use Rattle.std.proofs.lemmas.Bool.{cases_lt}
+use Rattle.std.proofs.lemmas.Grind.{flat_map-append}
+use Rattle.std.proofs.lemmas.List.{get_or-drop, get_or-take, length-drop, length-take-le, take-append-drop, take_all}
+use Rattle.std.specs.Io.KnownBytes.{Consumes, IsAtEnd}
+use Rattle.std.specs.Prelude.{slice_index}
+use Rattle.http_desk.proofs.lemmas.Known.{Consumes-join, Consumes-none}
+use Rattle.http_desk.specs.Counted.{Known, bytes_known}
+use Rattle.http_desk.specs.Input.{all_of, unread}
+use Rattle.http_desk.specs.declared.counted.Counted.{Counted}
+use Rattle.http_desk.specs.declared.input.Input.{Input}
+use Rattle.memchr.specs.Find.{Nowhere, Passes, is_byte}
+use Rattle.sqlite_trees.proofs.ListLemmas.{all-append}
+use Rattle.credit_listing.specs.Lines.{AreRead, AreTaken, Comes, IsLine, NoFeed}
+
+-- ---- where the line feeds are
+
+-- what is left behind a place
+pub rest_is : (seen : ℕ) (bytes : List ℕ) → take (length bytes - seen) (drop seen bytes) ≡ drop seen bytes
+rest_is seen bytes = take_all (length bytes - seen) (drop seen bytes) (let long = length-drop seen bytes in omega (arith, long))
+
+feed : (byte : ℕ) → byte ≡ 10 → is_byte 10 byte ≡ true
+feed byte is = subst (λ (b : ℕ). is_byte 10 b ≡ true) (sym is) refl
+
+-- nothing was found up to a place behind what was searched before
+no_feed_on : (bytes : List ℕ) (seen more : ℕ) → NoFeed bytes seen → Nowhere (Passes (is_byte 10) (drop seen bytes)) 0 more → NoFeed bytes (seen + more)
+no_feed_on bytes seen more before nowhere place below is = ⊎_elim (λ (low : place < seen). before place low is) high (cases_lt place seen)
+  where
+    high : seen ≤ place → ⊥
+    high low =
+        let here : seen + (place - seen) ≡ place = omega (arith, low) in
+        nowhere (place - seen) (omega arith) (omega (arith, low, below)) (feed (slice_index (drop seen bytes) (place - seen)) (get_or-drop seen bytes (place - seen) 0 ∙ ap (λ (n : ℕ). slice_index bytes n) here ∙ is))
+
+-- the line that ends with the first line feed that was found
+pub found_line : (bytes : List ℕ) (seen place : ℕ) → NoFeed bytes seen → seen + place < length bytes → Nowhere (Passes (is_byte 10) (drop seen bytes)) 0 place → IsLine (take (seen + place + 1) bytes)
+found_line bytes seen place before within nowhere at below is =
+    let long : length (take (seen + place + 1) bytes) ≡ seen + place + 1 = length-take-le (seen + place + 1) bytes (omega (arith, within)) in
+    no_feed_on bytes seen place before nowhere at (omega (arith, long, below)) (sym (get_or-take (seen + place + 1) bytes at 0 (omega (arith, long, below))) ∙ is)
+
+-- all that was searched has none
+pub searched : (bytes : List ℕ) (seen : ℕ) → seen ≤ length bytes → NoFeed bytes seen → Nowhere (Passes (is_byte 10) (drop seen bytes)) 0 (length (drop seen bytes)) → NoFeed bytes (length bytes)
+searched bytes seen within before nowhere =
+    subst (NoFeed bytes) (let long = length-drop seen bytes in omega (arith, within, long)) (no_feed_on bytes seen (length (drop seen bytes)) before nowhere)
+
+-- and so it is the last line
+pub last_line : (bytes : List ℕ) (count : ℕ) → count ≡ length bytes → NoFeed bytes count → IsLine (take count bytes)
+last_line bytes count is none at below found =
+    let long : length (take count bytes) ≡ count = length-take-le count bytes (omega (arith, is)) in
+    none at (omega (arith, long, below)) (sym (get_or-take count bytes at 0 (omega (arith, long, below))) ∙ found)
+
+-- what comes behind changes nothing of it
+pub still_none : (bytes more : List ℕ) (count : ℕ) → count ≤ length bytes → NoFeed bytes count → NoFeed (bytes ++ more) count
+still_none bytes more count within none at below found = none at below (sym (get_or-append bytes more 0 at (omega (arith, within, below))) ∙ found)
+
+-- ---- what came
+
+module _ {R : Type 0} (remaining : Known R) where
+  pub comes_on : (reader mid new_reader : Counted R) (input between new_input : Input) → Comes remaining reader mid input between → Comes remaining mid new_reader between new_input
+      → Comes remaining reader new_reader input new_input
+  comes_on reader mid new_reader input between new_input first then = (
+    first.0 ++ then.0,
+    then.1 ∙ ap (λ (b : List ℕ). b ++ then.0) first.1 ∙ append_assoc (unread input) first.0 then.0,
+    Consumes-join (bytes_known remaining reader) (bytes_known remaining mid) (bytes_known remaining new_reader) first.0 then.0 first.2 then.2,
+  )
+
+  pub comes_none : (reader : Counted R) (input : Input) → Comes remaining reader reader input input
+  comes_none reader input = ([], sym (append-nil (unread input)), Consumes-none (bytes_known remaining reader))
+
+  -- a line was read and taken
+  pub taken_line : (reader mid new_reader : Counted R) (input between new_input : Input) (lines : List (List ℕ)) (count : ℕ) → AreTaken remaining reader mid input lines → Comes remaining mid new_reader input between
+      → IsLine (take count (unread between)) → unread new_input ≡ drop count (unread between) → AreTaken remaining reader new_reader new_input (lines ++ take count (unread between) ∷ [])
+  taken_line reader mid new_reader input between new_input lines count taken comes line rest = record {
+    each = all-append IsLine lines (take count (unread between) ∷ []) taken.each (line, tt);
+    all = subst (Consumes (bytes_known remaining reader) (bytes_known remaining new_reader)) same (Consumes-join (bytes_known remaining reader) (bytes_known remaining mid) (bytes_known remaining new_reader) (all_of lines ++ unread input) comes.0 taken.all comes.2);
+  }
+    where
+      here : List ℕ
+      here = take count (unread between)
+
+      same : (all_of lines ++ unread input) ++ comes.0 ≡ all_of (lines ++ here ∷ []) ++ unread new_input
+      same =
+          append_assoc (all_of lines) (unread input) comes.0
+          ∙ ap (λ (l : List ℕ). all_of lines ++ l) (sym comes.1 ∙ sym (take-append-drop count (unread between)) ∙ ap (λ (l : List ℕ). here ++ l) (sym rest) ∙ ap (λ (l : List ℕ). l ++ unread new_input) (sym (append-nil here)))
+          ∙ sym (append_assoc (all_of lines) (here ++ []) (unread new_input))
+          ∙ ap (λ (l : List ℕ). l ++ unread new_input) (sym (flat_map-append (λ (l : List ℕ). l) lines (here ∷ [])))
+
+  -- none yet
+  pub taken_none : (reader : Counted R) (input : Input) → unread input ≡ [] → AreTaken remaining reader reader input []
+  taken_none reader input empty = record { each = tt; all = subst (Consumes (bytes_known remaining reader) (bytes_known remaining reader)) (sym empty) (Consumes-none (bytes_known remaining reader)) }
+
+  -- all of them
+  pub all_read : (reader mid new_reader : Counted R) (input new_input : Input) (lines : List (List ℕ)) → AreTaken remaining reader mid input lines → Comes remaining mid new_reader input new_input
+      → unread new_input ≡ [] → IsAtEnd (bytes_known remaining new_reader) → AreRead remaining reader new_reader lines
+  all_read reader mid new_reader input new_input lines taken comes empty ended = record {
+    each = taken.each;
+    all =
+        subst (Consumes (bytes_known remaining reader) (bytes_known remaining new_reader))
+        (append_assoc (all_of lines) (unread input) comes.0 ∙ ap (λ (l : List ℕ). all_of lines ++ l) (sym comes.1 ∙ empty) ∙ append-nil (all_of lines))
+        (Consumes-join (bytes_known remaining reader) (bytes_known remaining mid) (bytes_known remaining new_reader) (all_of lines ++ unread input) comes.0 taken.all comes.2);
+    ended = ended;
+  }

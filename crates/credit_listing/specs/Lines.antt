@@ -1,0 +1,32 @@
+-- How lines are cut out of the bytes that a reader gives.
+use Rattle.std.specs.Prelude.{◌≡◌, ◌≢◌, ℕ, ◌-◌, ◌<◌, List, ◌++◌, length, slice_index}
+use Rattle.std.specs.Io.KnownBytes.{Consumes, IsAtEnd}
+use Rattle.std.specs.List.{AllByRecursion}
+use Rattle.http_desk.specs.Counted.{Known, bytes_known}
+use Rattle.http_desk.specs.Input.{all_of, unread}
+use Rattle.http_desk.specs.declared.counted.Counted.{Counted}
+use Rattle.http_desk.specs.declared.input.Input.{Input}
+
+-- none of so many bytes at the front is a line feed
+abbrev pub NoFeed : List ℕ → ℕ → Type 0
+NoFeed bytes count = (place : ℕ) → place < count → slice_index bytes place ≢ 10
+
+-- bytes are one line: a line feed is their last byte, or there is none
+abbrev pub IsLine : List ℕ → Type 0
+IsLine bytes = NoFeed bytes (length bytes - 1)
+
+-- what a reader gave went to the end of what was not taken yet
+abbrev pub Comes : {R : Type 0} → Known R → Counted R → Counted R → Input → Input → Type 0
+Comes remaining reader new_reader input new_input =
+    (more : List ℕ) × (unread new_input ≡ unread input ++ more) × Consumes (bytes_known remaining reader) (bytes_known remaining new_reader) more
+
+-- lines are all that a reader gave, to its end
+pub record AreRead {R : Type 0} (remaining : Known R) (reader new_reader : Counted R) (lines : List (List ℕ)) : Type 0 where
+  pub each : AllByRecursion IsLine lines
+  pub all : Consumes (bytes_known remaining reader) (bytes_known remaining new_reader) (all_of lines)
+  pub ended : IsAtEnd (bytes_known remaining new_reader)
+
+-- lines, and what was not taken yet, are all that a reader gave so far
+pub record AreTaken {R : Type 0} (remaining : Known R) (reader new_reader : Counted R) (input : Input) (lines : List (List ℕ)) : Type 0 where
+  pub each : AllByRecursion IsLine lines
+  pub all : Consumes (bytes_known remaining reader) (bytes_known remaining new_reader) (all_of lines ++ unread input)
