@@ -20,6 +20,7 @@ from society_office.copy import beside
 from society_office.errors import OfficeError
 from society_office.orders import LAST_POOL
 from society_office.pages import write_out
+from society_office.payments import every_command as payments
 from society_office.site import write_site
 from society_office.program import Office, ReplayOffice, find_program, open_whole, trial_of
 from society_office.soundness import need_sound
@@ -316,6 +317,6 @@ def site(copy: pathlib.Path, into: pathlib.Path, folder: pathlib.Path | None) ->
     say(f"{count:,} files in {into}; begin with {into / 'index.html'}")
 
 
-for module in (account_commands, closing_commands, decision_commands, dues_commands, money_commands, standby_commands):
+for module in (account_commands, closing_commands, decision_commands, dues_commands, money_commands, payments, standby_commands):
     for command in module.COMMANDS:
         main.add_command(command)

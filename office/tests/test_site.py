@@ -13,8 +13,8 @@ from society_office.unclaimed import Cause, Unclaimed
 from test_statements import run
 
 COMMANDS = (
-    "amend balances check close compare decisions dues explain file health parties propose rebuild rehearse resend returned site "
-    "statement unclaimed void why"
+    "adjust amend balances check close compare decisions dues explain file health ledger members parties pay propose rebuild rehearse "
+    "resend returned site statement unclaimed void why"
 )
 CAUSES = {"none": "nobody", "plays": "nobody", "share": "share", "conflict": "conflict"}
 
