@@ -190,5 +190,7 @@ def write_log(database: pathlib.Path, target: pathlib.Path) -> None:
             head = struct.pack(">2I", page, count if page == count else 0)
             sums = summed(array.array("I", head + content), sums)
             log.write(head + salts + struct.pack(">2I", *sums) + content)
+        # (the program takes only a log whose place behind the last frame has other salts, as its own store leaves it)
+        log.write(bytes(FRAME_HEADER))
         log.flush()
         os.fsync(log.fileno())
