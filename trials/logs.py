@@ -97,7 +97,7 @@ def logs_that_were_cut(program, folder):
     for row, room, log, frames, _ in over_each_office(program, folder):
         for place in range(frames + 1):
             refuse(program, room, (row, "cut", place), log[: book_log.HEADER + place * FRAME], place % 9 == 0)
-        for place in (1, 31, 33, 40, book_log.HEADER + 100, len(log) // 2):
+        for place in (1, 31, 33, 40, book_log.HEADER + 100, (book_log.HEADER + frames * FRAME) // 2):
             refuse(program, room, (row, "cut to", place), log[:place])
 
 
