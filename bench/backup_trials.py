@@ -41,7 +41,10 @@ here=$(dirname "$0")
 echo "$*" >> "$here/asked"
 case $* in
   stop*) kill "$(cat "$here/pid")"; while kill -0 "$(cat "$here/pid")" 2> /dev/null; do sleep 0.05; done ;;
-  start*) setsid bash "$here/start" > /dev/null 2>&1 & echo $! > "$here/pid" ;;
+  start*)
+    # (one that runs is not started again)
+    exec 9> "$here/lock"; flock 9
+    kill -0 "$(cat "$here/pid")" 2> /dev/null || { setsid bash "$here/start" > /dev/null 2>&1 9>&- & echo $! > "$here/pid"; } ;;
   *is-enabled*) exit 1 ;;
   is-active*) kill -0 "$(cat "$here/pid")" 2> /dev/null && echo active ;;
 esac
