@@ -14,14 +14,17 @@ import pytest
 from chains import Chain
 from conftest import HERE
 from ledger import EMPTY, Due, Order, Work, opened
-from society_office import dues
+from society_office import amendments, dues, own_returns
 from society_office.amendments import orders_as_due
 from society_office.copy import Copy
+from society_office.errors import OfficeError
 from society_office.fields import MAX_BODY
 from society_office.own_returns import ROWLESS, return_of, unit_rows
 from society_office.plays import points
 from society_office.pool_kinds import Book
 from society_office.return_faults import return_faults
+from society_office.return_names import entry
+from society_office.stored_returns import stored_returns
 
 COUNT = 60
 ANNA = "I00000000101"
@@ -206,6 +209,7 @@ def test_what_a_recording_pays_is_needed_no_more() -> None:
         ([5_000, 5_000], [500, 0], 1_000),
         ([4_999, 5_001], [500, 0], 0),
         ([4_000, 6_000], [400, 300], 500),
+        ([4_000, 6_000], [400, 301], 501),
         ([4_000, 6_000], [400, 600], 1_000),
         ([4_000, 6_000], [0, 600], 0),
         ([10_000], [85], 85),
@@ -245,3 +249,128 @@ def test_the_first_make_up_that_has_an_owner_counts() -> None:
     # At the first cut two works name it, at the second Anna's alone, at the third the other one's.
     chain.check_dues()
     assert next_of(chain) == ("LATE", {A: 900})
+
+
+def of_ledger(chain: Chain) -> Book:
+    """The book of a chain as it is."""
+    return Book(Copy(EMPTY, opened(chain.ledger.kept())))
+
+
+def test_a_pool_over_an_own_return_and_plays_is_of_people() -> None:
+    chain = prepared(("PR", 1_000, False, A))
+    chain.ledger.send_return(("LATE00000001", 5), f"{ROWLESS}{A},100,1\n")
+    chain.ledger.send_return(("RADIO1", 9), f"{ROWLESS}{B},100,1\n")
+    assert chain.ledger.close(5, Order("PR", 400, ((HOUSE, 1),), (("LATE00000001", 5), ("RADIO1", 9)))) == 201
+    assert of_ledger(chain).is_play(5) and of_ledger(chain).late("PR") == []
+    chain.check_dues()
+
+
+def test_an_amendment_under_a_wrong_number_amends_nothing() -> None:
+    chain = prepared(("PR", 1_000, True, A))
+    chain.ledger.send_return(("AMEND1", 99_999), ROWLESS)
+    assert chain.ledger.close(5, Order("PR", 0, (), (("AMEND1", 99_999),))) == 201
+    chain.check_dues()
+    assert of_ledger(chain).amending == {} and of_ledger(chain).next_number() == 99_998
+
+
+def test_what_an_amendments_pool_has_credited_is_paid() -> None:
+    chain = prepared(("PR", 1_000, True, A))
+    chain.amendments.append((99_999, 1, chain.ledger.pools[1]))
+    chain.ledger.send_return(("AMEND1", 99_999), f"{ROWLESS}{A},1,1\n")
+    assert chain.ledger.close(99_999, Order("PR", 300, ((HOUSE, 1),), (("AMEND1", 99_999),))) == 201
+    chain.check_dues()
+
+
+def test_rounds_of_before_own_in_the_order_of_their_pools() -> None:
+    chain = prepared(("PR", 1_000, False, A))
+    own = ("SETTLED", 1, 2), ("SETTLED", 2, 3), ("LATE00000001", 99_998, 99_998), ("LATE00000002", 99_999, 99_999)
+    for reporter, number, pool in own:
+        chain.ledger.send_return((reporter, number), f"{ROWLESS}{A},1,1\n")
+        assert chain.ledger.close(pool, Order("PR", 1, ((HOUSE, 1),), ((reporter, number),))) == 201
+    assert of_ledger(chain).late("PR") == [2, 3, 99_999, 99_998] and of_ledger(chain).late("MR") == []
+
+
+def test_a_correction_of_before_of_a_pool_that_is_not_there_asks_for_nothing() -> None:
+    chain = prepared(("PR", 1_000, True, A))
+    chain.ledger.send_return(("CORRECTED7", 7), ROWLESS)
+    chain.check_dues()
+
+
+def test_numbers_end() -> None:
+    book = of_ledger(prepared(("PR", 1_000, True, A)))
+    book.paid_by[own_returns.amends(99_999), 3] = 3
+    assert book.next_number() == 2
+    book.paid_by[own_returns.amends(99_999), 2] = 2
+    # (pool 1 is of people)
+    with pytest.raises(OfficeError, match="all pool numbers from 99,999 down are used"):
+        book.next_number()
+
+
+def test_whoever_has_too_much_in_all_is_paid_nothing_of_a_recording() -> None:
+    chain = prepared(("PR", 1_000, True, A), ("PR", 1_000, True, B))
+    amend(chain, 1, 1_200)
+    amend(chain, 2, 500)
+    book = of_ledger(chain)
+    found = dues.Dues(Copy(EMPTY, opened(chain.ledger.kept())), book, orders_as_due(book, chain.listed, []), chain.ask)
+    made = found.make_up(True)
+    assert made is not None and made.order.amount == 200 and found.make_up() is None
+    assert found.beyond(made, {(A, ANNA): 200}, True) == []
+    assert found.beyond(made, {(A, ANNA): 200}) == [f"200 units to {ANNA}, which lacks 0 in all"]
+
+
+def test_an_amended_pool_where_more_have_files_than_a_cut_has(monkeypatch: pytest.MonkeyPatch) -> None:
+    monkeypatch.setattr(dues, "MOST_SENDERS", 4)
+    chain = Chain(0)
+    chain.apart = False
+    chain.ledger.send_return(("RADIO1", 1), rows(6))
+    chain.ledger.close(1, Order("PR", 600, (), (("RADIO1", 1),)))
+    amend(chain, 1, 1_200)
+    for k in range(6):
+        chain.ledger.send_file(f"PB{k:09d}", [Work("W1", (f"ATABC{k:07d}",), ((f"I{k + 1:011d}", 10_000, 0),))])
+    assert sum(all_paid(chain, 3)) == 1_200 and lacking(chain) == 0
+
+
+def test_an_order_is_amended_up_to_its_limits(monkeypatch: pytest.MonkeyPatch) -> None:
+    monkeypatch.setattr(amendments, "MOST_SENDERS", 1)
+    chain = prepared(("PR", 1_000, True, A))
+    copy, book = Copy(EMPTY, opened(chain.ledger.kept())), of_ledger(chain)
+    found = amendments.amended(copy, book.orders, 1, amendments.Changes(10**12), stored_returns(copy), [])
+    assert (found.amount, found.cut) == (10**12, [(HOUSE, 1)])
+    with pytest.raises(OfficeError, match="an amount is 0 to 1,000,000,000,000 units"):
+        amendments.amended(copy, book.orders, 1, amendments.Changes(10**12 + 1), stored_returns(copy), [])
+
+
+def test_a_return_of_a_pool_that_is_due_no_more_is_moved() -> None:
+    chain = prepared(("PR", 1_000, True, A), ("PR", 500, True, B))
+    amend(chain, 1, 0)
+    copy, book = Copy(EMPTY, opened(chain.ledger.kept())), of_ledger(chain)
+    changes = amendments.Changes(1_500, returns=[entry("RADIO1/1-2", "--returns")])
+    should = amendments.amended(copy, orders_as_due(book, chain.listed, []), 2, changes, stored_returns(copy), [])
+    order = Order("PR", 1_500, ((HOUSE, 1),), (("RADIO1", 1), ("RADIO1", 2)))
+    assert (should.amount, tuple(should.returns)) == (order.amount, order.returns)
+    chain.amendments.append((99_998, 2, order))
+    chain.ledger.send_return(("AMEND2", 99_998), ROWLESS)
+    assert chain.ledger.close(99_998, Order("PR", 0, order.cut, (("AMEND2", 99_998),))) == 201
+    chain.check_dues()
+
+
+def test_what_a_way_does_not_pay_is_no_room_for_it() -> None:
+    chain = prepared(("PR", 1_000, False, A), ("PR", 1_000, True, f"{A} {B}"))
+    amend(chain, 2, 11_000)
+    book = of_ledger(chain)
+    found = dues.Dues(Copy(EMPTY, opened(chain.ledger.kept())), book, orders_as_due(book, chain.listed, []), chain.ask)
+    made = found.make_up()
+    # (1,000 units more of the first are due by the newest cut alone)
+    assert made is not None and made.way.reporter == "DUE" and found.difference["PR", A, ANNA] == 6_000
+    assert found.beyond(made, {(A, ANNA): 5_500, (B, ANNA): 5_000}) == [
+        f"5,500 units of {A} to {ANNA}, which lacks 5,000 of it",
+        f"10,500 units to {ANNA}, which lacks 10,000 in all",
+    ]
+
+
+def test_what_is_not_given_of_an_order_stays() -> None:
+    chain = prepared(("MR", 1_000, True, A))
+    copy, book = Copy(EMPTY, opened(chain.ledger.kept())), of_ledger(chain)
+    for changes in (amendments.Changes(), amendments.Changes(cut=["now"]), amendments.Changes(kind="MR")):
+        assert amendments.amended(copy, book.orders, 1, changes, stored_returns(copy), []) == book.orders[1]
+    assert amendments.amended(copy, book.orders, 1, amendments.Changes(0, "PR"), stored_returns(copy), []).json.startswith('{"amount":0,')

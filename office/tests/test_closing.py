@@ -353,3 +353,15 @@ def test_which_numbers_are_asked_for() -> None:
     assert answered.numbers_beside([1, 2, 4, 7], 99) == [8, 9, 10, 6, 5, 3]
     assert answered.numbers_beside(range(1, 98), 99) == [98, 99]
     assert answered.numbers_beside([60], 99) == [61, 62, 63, 59, 58, 57, 56, 55]
+
+
+def test_the_first_credit_that_differs_is_told() -> None:
+    was, now = [("A", "X", 5), ("B", "X", 8)], [("A", "X", 7), ("B", "X", 8)]
+    assert closing.difference(was, now) == "rehearsed were 5 units of A for X, and the office has credited 7 units of A for X"
+    assert closing.difference(was, was[:1]) == "rehearsed were 8 units of B for X, and the office has credited no more"
+    assert closing.difference(was, was) == ""
+
+
+def test_of_returns_of_the_office_those_of_the_pools_number_are_sent() -> None:
+    returns = [["AMEND1", 6], ["LATE00000001", 7], ["RADIO1", 6]]
+    assert closing.Plan(b"{}", {"amount": 5, "returns": returns}, 6).own == [("AMEND1", 6)]

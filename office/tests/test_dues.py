@@ -7,8 +7,11 @@ import pytest
 from click.testing import CliRunner
 from desk import ANNA, BORIS, CLARA, HOUSE, OTHER, Desk, file, holder, work
 from office_value import Pool, Return
-from society_office import dues
+from society_office import dues, dues_commands
+from society_office.amendments import remarks_on
 from society_office.cli import main
+from society_office.errors import OfficeError
+from society_office.orders import Order
 
 A, B = "ATABC2600001", "ATABC2600002"
 # A pool of 1,000 over a recording that nobody has.
@@ -291,3 +294,40 @@ def run_errors(desk: Desk, *words: object) -> str:
     """What a command says on standard error."""
     command, *rest = (str(it) for it in words)
     return CliRunner(mix_stderr=False).invoke(main, [command, str(desk.live), *rest], catch_exceptions=False).stderr
+
+
+def test_what_an_amendment_changes_is_told() -> None:
+    was = Order("PR", 1_000, [(HOUSE, 1)], [("RADIO1", 1), ("RADIO1", 2)])
+    now = Order("MR", 2_000, [(OTHER, 2)], [("RADIO1", 2), ("RADIO1", 3)])
+    assert list(remarks_on(was, now)) == [
+        "amount 2,000 in the place of 1,000",
+        "of the MR in the place of the PR",
+        f"the cut counts {HOUSE} up to nothing, and was 1",
+        f"the cut counts {OTHER} up to 2, and was without it",
+        "pays RADIO1/3 too",
+        "does not pay RADIO1/1",
+    ]
+    assert list(remarks_on(was, was)) == []
+
+
+def test_an_amendment_keeps_void_returns_and_shows_what_is_due_without_them(
+    program: str, tmp_path: pathlib.Path, decided: pathlib.Path
+) -> None:
+    returns = [Return("RADIO1", 1, [(A, 10, 10)]), Return("RADIO1", 2, [(B, 10, 10)])]
+    desk = Desk(program, tmp_path, of_a(), *returns, Pool(1, "PR", 1_000, {HOUSE: 1}, [("RADIO1", 1), ("RADIO1", 2)]))
+    (decided / "void.txt").write_text("RADIO1/2  # a wrong month\n")
+    shown = json.loads(desk.run("amend", 1, "--amount", 600, "--format", "json"))
+    assert {it["account"]: it["due"] for it in shown} == {ANNA: 600, "UNCLAIMED": 0}
+    desk.amend(1, "--amount", 600)
+    assert (decided / "amendments.txt").read_text().endswith('"returns":[["RADIO1",1],["RADIO1",2]]}\n')
+    assert "- amount 700 in the place of 600\n" in desk.run("amend", 1, "--amount", 700)
+
+
+def test_nothing_is_listed_that_the_program_refuses(desk: Desk, decided: pathlib.Path, monkeypatch: pytest.MonkeyPatch) -> None:
+    def refuses(*_: object) -> None:
+        raise OfficeError("it is refused")
+
+    before = (decided / "amendments.txt").read_text()
+    monkeypatch.setattr(dues_commands, "closed", refuses)
+    assert desk.amended(1, "--amount", 300, status=1) == [] and "it is refused" in desk.said
+    assert (decided / "amendments.txt").read_text() == before

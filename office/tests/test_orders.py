@@ -145,6 +145,7 @@ def test_an_order_is_rehearsed(copy: pathlib.Path, tmp_path: pathlib.Path, progr
     [
         ('{"returns":[["LATE3F0A9C21",99999]]}', 99_999),
         ('{"returns":[["AMEND1",99998],["RADIO1",4]]}', 99_998),
+        ('{"returns":[["AMEND99999",99998]]}', 99_998),
         ('{"returns":[["LATE3F0A9C21",100000]]}', 6),
         ('{"returns":[["LATE3F0A9C21",99999],["DUE3F0A9C21",99998]]}', 6),
         ('{"returns":[["RADIO1",4]]}', 6),

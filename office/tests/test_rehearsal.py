@@ -192,9 +192,12 @@ def test_what_is_due_by_an_order(office: pathlib.Path, program: str, tmp_path: p
     units = json.loads(order_file.read_text())["amount"]
     more = json.loads(order_file.read_text()) | {"amount": units + 1_000}
     (tmp_path / "more.json").write_text(json.dumps(more))
-    assert "are beyond what is due" in run("rehearse", stored, tmp_path / "more.json", "--program", program)
+    said = run("rehearse", stored, tmp_path / "more.json", "--program", program)
+    assert "are beyond what is due" in said and "all of it is due" not in said
     mixed = order((name.partition("/")[0], 99_999), ("TV1", 1))
-    assert any("has to be paid by an order of its own, without plays" in it for it in notes(stored, program, mixed))
+    found = notes(stored, program, mixed)
+    assert any("has to be paid by an order of its own, without plays" in it for it in found)
+    assert any(it.startswith("not named, and paid by no pool: ") for it in found)
     # An order of plays is not looked at for what is due but for void returns, and tells what is due beside it.
     found = notes(stored, program, order(("TV1", 1)))
     assert any("units more are due to" in it for it in found) and not any("beyond" in it for it in found)
