@@ -55,6 +55,15 @@ def test_plays_that_were_sent_twice(office: pathlib.Path, program: str) -> None:
     assert "RADIO1/4 has the same plays as RADIO1/3, paid by pool 3 in the PR: right only where it is to be paid in both" in found
 
 
+@pytest.mark.parametrize("right", ["PR", "MR"])
+def test_plays_that_were_sent_twice_are_proposed_once(office: pathlib.Path, right: str) -> None:
+    with open_copy(office) as opened:
+        found = propose(opened, 1_000, right, Wanted(), [])
+    assert ("RADIO3", 1) in found.order.returns and ("RADIO3", 2) not in found.order.returns
+    why = {key: it.why for it in found.left_out for key in it.returns}
+    assert why["RADIO3", 2] == "the same plays as RADIO3/1, named here"
+
+
 def test_plays_that_were_paid_in_both_rights(office: pathlib.Path, program: str, tmp_path: pathlib.Path) -> None:
     paid = [order(("RADIO3", 1), right="MR"), order(("RADIO3", 2))._replace(pool=7)]
     steps = [Return("RADIO3", 3, PLAYS), *paid]
