@@ -172,7 +172,8 @@ def written(copy: pathlib.Path, folder: pathlib.Path) -> tuple[pathlib.Path, byt
     """A log that has each page of a copy, as one transaction, and another transaction of the same pages behind it."""
     log = folder / "written-wal"
     book_log.write_log(copy, log)
-    once = log.read_bytes()
+    # (the place behind the last frame is shut, and is where the other transaction goes)
+    once = log.read_bytes()[: -book_log.FRAME_HEADER]
     read = book_log.Log(log)
     frames = bytearray(once)
     stored: tuple[int, int] = (
