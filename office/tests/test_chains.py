@@ -175,6 +175,13 @@ def test_what_may_change_is_needed_by_the_order_that_pays_it_alone() -> None:
     assert next_of(chain) == ("LATE", {A: 600})
 
 
+def test_what_may_change_of_a_recording_is_no_room_of_another_order() -> None:
+    chain = prepared(("PR", 100, False, A), *(("PR", 1_000, True, it) for it in (A, B, C)))
+    for pool, amount in ((2, 1_500), (3, 3_000), (4, 700)):
+        amend(chain, pool, amount)
+    assert next_of(chain) == ("DUE", {A: 500, B: 1_700})
+
+
 def test_what_may_change_in_another_right_is_needed_by_another_order() -> None:
     chain = prepared(("PR", 300, False, A), ("MR", 700, False, A), ("PR", 1_500, True, B))
     amend(chain, 3, 1_400)
@@ -318,16 +325,25 @@ def test_whoever_has_too_much_in_all_is_paid_nothing_of_a_recording() -> None:
     assert found.beyond(made, {(A, ANNA): 200}) == [f"200 units to {ANNA}, which lacks 0 in all"]
 
 
-def test_an_amended_pool_where_more_have_files_than_a_cut_has(monkeypatch: pytest.MonkeyPatch) -> None:
+def test_amended_pools_where_more_have_files_than_a_cut_has(monkeypatch: pytest.MonkeyPatch) -> None:
     monkeypatch.setattr(dues, "MOST_SENDERS", 4)
     chain = Chain(0)
     chain.apart = False
-    chain.ledger.send_return(("RADIO1", 1), rows(6))
-    chain.ledger.close(1, Order("PR", 600, (), (("RADIO1", 1),)))
-    amend(chain, 1, 1_200)
-    for k in range(6):
+    for pool, first in ((1, 0), (2, 4)):
+        chain.ledger.send_return(("RADIO1", pool), ROWLESS + "".join(f"ATABC{k:07d},1,1\n" for k in range(first, first + 4)))
+        chain.ledger.close(pool, Order("PR", 400 * pool, (), (("RADIO1", pool),)))
+        amend(chain, pool, 800 * pool)
+    for k in range(8):
         chain.ledger.send_file(f"PB{k:09d}", [Work("W1", (f"ATABC{k:07d}",), ((f"I{k + 1:011d}", 10_000, 0),))])
-    assert sum(all_paid(chain, 3)) == 1_200 and lacking(chain) == 0
+    assert all_paid(chain, 3) == [1_600, 800] and lacking(chain) == 0
+
+
+def test_what_may_change_where_more_have_files_than_a_cut_has(monkeypatch: pytest.MonkeyPatch) -> None:
+    monkeypatch.setattr(dues, "MOST_SENDERS", 1)
+    chain = prepared(("PR", 1_000, False, A), ("PR", 1_000, True, f"{A} {B}"))
+    chain.ledger.send_file("PB000000034", [])
+    amend(chain, 2, 11_000)
+    assert next_of(chain) == ("DUE", {A: 5_000, B: 5_000})
 
 
 def test_an_order_is_amended_up_to_its_limits(monkeypatch: pytest.MonkeyPatch) -> None:

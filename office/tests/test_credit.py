@@ -10,12 +10,14 @@ import pytest
 import quarter
 import random_office
 from conftest import OFFICE, made
-from office_value import Office, order_body
+from office_value import File, Office, order_body
 from society_office import credit
 from society_office.copy import open_copy
 from society_office.credit import Asked, asking
 from society_office.dues import Dues
 from society_office.errors import OfficeError
+from society_office.orders import Order
+from society_office.own_returns import ROWLESS
 from society_office.pool_kinds import Book
 
 COUNT = 12
@@ -51,6 +53,17 @@ def test_an_order_of_a_closed_pool_gives_its_credits(copy: pathlib.Path, program
             credited = list(opened.rows("SELECT isrc, account, units FROM credits WHERE pool = ? ORDER BY line", pool))
             assert [(it.isrc, it.account, it.part) for it in rows] == credited
             assert sum(it.part for it in rows) == book.orders[pool].amount
+
+
+def test_what_a_pool_would_credit_is_the_sum_of_an_accounts_lines(program: str, tmp_path: pathlib.Path) -> None:
+    isrc, anna = "ATABC2600001", "I00000000295"
+    holders = [quarter.writer(number, "WRITER", "ANNA", anna[1:]) for number in ("A1", "A2")]
+    works = File(quarter.ALPHA, 1, "transmissions/1", [quarter.nwr("W1", "SONG", isrc, *holders)])
+    with open_copy(made(program, Office(quarter.NAMES, [works]), tmp_path)) as opened:
+        returned = ("RADIO1", 2)
+        order = Order("PR", 1_001, [(quarter.ALPHA, 1)], [returned])
+        found = credit.closed(program, opened, 7, order, returned, f"{ROWLESS}{isrc},1,1\n")
+    assert found == {(isrc, anna): 1_001, (isrc, "UNCLAIMED"): 0}
 
 
 def test_more_recordings_than_a_line_takes(copy: pathlib.Path, program: str, monkeypatch: pytest.MonkeyPatch) -> None:

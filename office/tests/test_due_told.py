@@ -72,3 +72,5 @@ def test_what_a_make_up_pays_beyond_and_what_it_leaves_is_told(monkeypatch: pyte
     assert told(99_999) == ["800 units more are due to 2 accounts: `society-office dues --next` writes their order"]
     made_up(chain, 99_998, 1_500, f"{A},1500,1\n")
     assert told(99_998) == [f"200 units to {ANNA} are beyond what is due", "and so are units to 1 more account, 400 units in all"]
+    monkeypatch.setattr(rehearsal, "MOST_TOLD", 2)
+    assert told(99_998) == [f"200 units to {it} are beyond what is due" for it in (ANNA, BORIS)]

@@ -111,8 +111,8 @@ def test_an_order_is_closed_over_its_own_return_alone(program: str, tmp_path: pa
     desk.steps(file(OTHER, 1, work("W1", B, holder(BORIS, 10_000))))
     second = desk.due()
     assert desk.send(first[0], second[1]) == [201, 409]
-    desk.settled()
-    assert desk.balances() == {ANNA: 250, BORIS: 750}
+    # (what was half sent takes no number)
+    assert desk.settled() == [99_999] and desk.balances() == {ANNA: 250, BORIS: 750}
 
 
 def test_a_return_is_paid_by_one_pool(program: str, tmp_path: pathlib.Path) -> None:
@@ -208,11 +208,56 @@ def test_what_is_too_much_is_set_off(program: str, tmp_path: pathlib.Path, apart
     assert "too much" in desk.run("dues", "--account", ANNA) and desk.due() == []
 
 
+def test_how_an_order_is_sent_is_told(desk: Desk, tmp_path: pathlib.Path) -> None:
+    desk.steps(of_a())
+    said = run_errors(desk, "dues", "--next", tmp_path / "next").splitlines()
+    [text], order = (tmp_path / "next").glob("LATE*-99999.csv"), tmp_path / "next/99999.json"
+    reporter, office = text.stem.removesuffix("-99999"), "http://127.0.0.1:8080/v1"
+    assert said[1:] == [
+        f"pool 99999, 1,000 units of the PR; send it by `close {order}`, or by these two:",
+        f"curl --noproxy '*' -fT {text} {office}/returns/{reporter}/99999 &&",
+        f"curl --noproxy '*' -fT {order} {office}/pools/99999",
+    ]
+
+
 def test_nothing_is_written_that_passes_what_is_due(desk: Desk, monkeypatch: pytest.MonkeyPatch) -> None:
     desk.steps(of_a())
     monkeypatch.setattr(dues, "fitting", lambda weights, rooms, most: 1_001)
     assert desk.written("dues", status=1) == []
     assert "the program would pay beyond what is due: 1,001 units of ATABC2600001 to I00000000101, which lacks 1,000 of it" in desk.said
+
+
+def test_nothing_is_written_that_passes_what_somebody_lacks_in_all(
+    program: str, tmp_path: pathlib.Path, monkeypatch: pytest.MonkeyPatch
+) -> None:
+    works = file(HOUSE, 1, work("W1", A, holder(ANNA, 10_000)), work("W2", B, holder(ANNA, 10_000)))
+    returns = [Return("RADIO1", 1, [(A, 1, 1)]), Return("RADIO1", 2, [(B, 1, 1)])]
+    desk = Desk(program, tmp_path, works, *returns, *(Pool(k, "PR", 1_000, {HOUSE: 1}, [("RADIO1", k)]) for k in (1, 2)))
+    desk.amend(1, "--amount", 400)
+    desk.amend(2, "--amount", 1_900)
+    monkeypatch.setattr(dues, "fitting", lambda weights, rooms, most: 900 if rooms[ANNA] else 0)
+    assert desk.written("dues", status=1) == []
+    passed = f"900 units to {ANNA}, which lacks 300 in all"
+    assert desk.said == f"society-office: nothing was written, since the program would pay beyond what is due: {passed}\n"
+    assert len(desk.written("dues", "--no-set-off")) == 2
+
+
+def test_what_the_office_itself_has_closed_is_due_by_no_order(desk: Desk) -> None:
+    desk.steps(of_a())
+    assert desk.settled() == [99_999]
+    desk.amend(1, "--amount", 900)
+    for pool in (99_998, 99_999):
+        said = desk.run("dues", "--pool", pool, status=1)
+        assert said == f"society-office: pool {pool} is none that people have closed over plays\n"
+
+
+def test_an_amendment_shows_no_void_returns_of_other_pools(program: str, tmp_path: pathlib.Path, decided: pathlib.Path) -> None:
+    works = file(HOUSE, 1, work("W1", f"{A} {B}", holder(ANNA, 10_000)))
+    returns = [Return("RADIO1", 1, [(A, 1, 1)]), Return("RADIO1", 2, [(B, 1, 1)])]
+    desk = Desk(program, tmp_path, works, *returns, *(Pool(k, "PR", 1_000, {HOUSE: 1}, [("RADIO1", k)]) for k in (1, 2)))
+    (decided / "void.txt").write_text("RADIO1/2  # a wrong month\n")
+    shown = json.loads(desk.run("amend", 1, "--amount", 600, "--format", "json"))
+    assert {it["account"]: (it["due"], it["paid"]) for it in shown} == {ANNA: (600, 2_000), "UNCLAIMED": (1_000, 0)}
 
 
 def test_an_amendment_and_its_list(desk: Desk, decided: pathlib.Path) -> None:
