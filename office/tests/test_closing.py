@@ -206,7 +206,7 @@ def test_a_pool_that_credits_otherwise_is_told(
 ) -> None:
     with odd(address, "other") as other:
         said = called(sure(copy, other, order, program), status=1)
-    assert "pool 6 is closed, but rehearsed were " in said and "12,345 units" in said
+    assert "pool 6 is closed, but rehearsed were " in said and ", and the office has credited 12,345 units of " in said
     assert "(not as rehearsed: " in decisions.read(decided).journal[-1].why
 
 
@@ -360,6 +360,8 @@ def test_the_first_credit_that_differs_is_told() -> None:
     assert closing.difference(was, now) == "rehearsed were 5 units of A for X, and the office has credited 7 units of A for X"
     assert closing.difference(was, was[:1]) == "rehearsed were 8 units of B for X, and the office has credited no more"
     assert closing.difference(was, was) == ""
+    other = [("A", "Y", 5), ("B", "X", 8)]
+    assert closing.difference(was, other) == "rehearsed were 5 units of A for X, and the office has credited 5 units of A for Y"
 
 
 def test_of_returns_of_the_office_those_of_the_pools_number_are_sent() -> None:

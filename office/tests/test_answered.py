@@ -1,0 +1,105 @@
+"""What an office has that a copy has not, and the other way, asked of an office that answers out of memory; and what a refusal is."""
+
+import dataclasses
+import json
+
+import pytest
+from ledger import EMPTY, Order, opened
+from society_office import closing, closing_commands
+from society_office.answered import lacks, lost
+from society_office.asking import Request
+from society_office.closing import Plan
+from society_office.copy import Copy
+from society_office.errors import OfficeError
+from society_office.own_returns import ROWLESS
+from society_office.program import Answer
+from test_chains import ANNA, HOUSE, A, B, amend, prepared
+
+PLAN = Plan(b"{}", {"amount": 5}, 6)
+
+
+@dataclasses.dataclass
+class Answering:
+    """An office in memory: what it has of fronts, returns, pools and balances, and what else it answers to all."""
+
+    fronts: dict[str, int]
+    returns: set[str]
+    pools: set[int]
+    balances: dict[str, int]
+    address: str = "http://127.0.0.1:1"
+
+    def ask(self, it: Request) -> Answer:
+        """The answer to a request."""
+        kind, _, rest = it.path.partition("/")
+        if kind == "senders":
+            return answer(200, {"front": self.fronts.get(rest, 0), "held": []})
+        if kind == "returns":
+            return answer(409, {"error": "reused"}) if rest in self.returns else answer(422, {"error": "csv", "fault": 1, "row": 1})
+        if kind == "pools":
+            return answer(200, {}) if int(rest) in self.pools else answer(404, {"error": "unknown"})
+        return answer(200, {"units": self.balances.get(rest, 0)})
+
+
+def answer(status: int, body: object) -> Answer:
+    """An answer of JSON."""
+    return Answer(status, json.dumps(body).encode())
+
+
+def of_office() -> tuple[Copy, Answering]:
+    """A copy with two returns, two pools of people and one of the office itself, and the office that has just that."""
+    chain = prepared(("PR", 1_000, True, A), ("PR", 500, True, B))
+    amend(chain, 1, 1_200)
+    chain.ledger.send_return(("DUE00000001", 99_998), f"{ROWLESS}{A},200,1\n")
+    assert chain.ledger.close(99_998, Order("PR", 200, ((HOUSE, 1),), (("DUE00000001", 99_998),))) == 201
+    returns = {f"{reporter}/{number}" for reporter, number in chain.ledger.returns}
+    office = Answering({HOUSE: 1}, returns, set(chain.ledger.pools), {ANNA: 1_700})
+    return Copy(EMPTY, opened(chain.ledger.kept())), office
+
+
+def told(copy: Copy, office: Answering) -> list[str]:
+    """What the office has and the copy has not."""
+    return [it.words for it in lacks(copy, office)]
+
+
+def test_pools_behind_those_of_people_are_asked_for() -> None:
+    copy, office = of_office()
+    assert told(copy, office) == [] and list(lost(copy, office)) == []
+    # (of no units, so that no balance tells of them)
+    office.pools |= {3, 5}
+    assert told(copy, office) == ["pool 3", "pool 5"]
+
+
+def test_the_last_return_of_each_reporter_is_asked_for() -> None:
+    copy, office = of_office()
+    office.returns -= {"RADIO1/2"}
+    assert [it.words for it in lost(copy, office)] == ["return RADIO1/2"]
+
+
+def test_a_balance_that_is_another_one_tells_of_a_pool() -> None:
+    copy, office = of_office()
+    words = [f"a pool ({ANNA} has {it:,} units there, and 1,700 in the copy)" for it in (1_701, 1_699)]
+    office.balances[ANNA] = 1_701
+    assert told(copy, office) == words[:1] and list(lost(copy, office)) == []
+    office.balances[ANNA] = 1_699
+    assert told(copy, office) == [] and [it.words for it in lost(copy, office)] == words[1:]
+
+
+@pytest.mark.parametrize("count, more", [(4, ""), (5, ""), (6, " and 1 more")])
+def test_how_much_more_an_office_has_is_told(count: int, more: str) -> None:
+    copy, office = of_office()
+    # (returns are asked for before pools)
+    office.returns |= {f"RADIO1/{it}" for it in (3, 4, 5)}
+    office.pools |= set(range(3, count))
+    listed = ["return RADIO1/3", "return RADIO1/4", "return RADIO1/5", "pool 3", "pool 4", "pool 5"][:count]
+    with pytest.raises(OfficeError) as raised:
+        closing_commands.need_copy_of_now(copy, office, PLAN, False)
+    what = f"the office has what /dev/null has not: {'; '.join(listed[:5])}{more}"
+    assert str(raised.value) == f"{what}. Take a copy of now: systemctl start society-backup"
+
+
+@pytest.mark.parametrize("status", closing.REFUSED)
+def test_a_refusal_is_one_of_an_office(status: int) -> None:
+    _, office = of_office()
+    with pytest.raises(OfficeError, match=f"^http://127.0.0.1:1 answers {status}, as no office does: whether it was closed is not known"):
+        closing.refused(office, Answer(status, b"<html>a page</html>"), "order")
+    assert closing.refused(office, answer(status, {"error": "reused"}), "order")
