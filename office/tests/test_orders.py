@@ -1,13 +1,16 @@
 """Unclaimed money and its causes, orders proposed and rehearsed."""
 
+import decimal
 import json
 import pathlib
 
 import pytest
 import quarter
 import reckoning
+from click.testing import CliRunner
 from conftest import further
 from office_value import File, Pool, Return, order_body
+from society_office.cli import main
 from society_office.copy import open_copy
 from society_office.orders import Wanted, pool_for, propose
 from society_office.unclaimed import Cause, Unclaimed
@@ -41,6 +44,11 @@ def test_why_nobody_is_paid(copy: pathlib.Path) -> None:
     assert found[1, "FREPS2600001"].part == 5_000
     own = ("FREPS2600005", reckoning.NOBODY)
     nobodys = [units for isrc, account, units in reckoning.credits(quarter.OFFICE, 1) if (isrc, account) == own]
+    for it in found.values():
+        if it.cause is Cause.SHARE:
+            whole = sum(units for isrc, _, units in reckoning.credits(quarter.OFFICE, it.pool) if isrc == it.isrc)
+            assert it.part == (decimal.Decimal(it.units * 10_000) / whole).quantize(decimal.Decimal(1), decimal.ROUND_HALF_UP), it
+    assert found[1, "GBGAM2600001"].units == 52_071 and found[1, "GBGAM2600001"].part == 5_000
     assert f"NAMELESS {nobodys[0]:,} (with neither an IPI name number nor an IP #)" in found[1, "FREPS2600005"].why
 
 
@@ -128,6 +136,23 @@ def test_an_order_is_proposed(copy: pathlib.Path, decided: pathlib.Path) -> None
         found = propose(opened, 7, "MR", Wanted(), [])
     assert found.order.returns == [("RADIO1", 4), ("TV1", 1), ("TV1", 2)] and found.pool == 6
     assert json.loads(found.order.json)["kind"] == "MR"
+
+
+def test_what_stands_beside_a_proposed_order_is_told(copy: pathlib.Path, decided: pathlib.Path) -> None:
+    (decided / "void.txt").write_text("RADIO9\nTV1/1-2\nRADIO2/1\nRADIO1/2\nRADIO1/1\n")
+    words = ["propose", str(copy), "--amount", "1000", "--kind", "MR", "--cut", f"{quarter.BETA}=0"]
+    ended = CliRunner(mix_stderr=False).invoke(main, words)
+    twice = "the same plays as RADIO1/3, paid by pool 3 in the PR: right only where it is to be paid in both"
+    cure = "`society-office dues` tells who has too much by it"
+    assert ended.stderr.splitlines()[1:] == [
+        "4 senders, 1 return; pool 6 is free",
+        "left out: TV1/1-2, void",
+        f"note: RADIO1/4 has {twice}",
+        f"note: {decided}/void.txt, line 1: RADIO9: no such return is stored",
+        f"note: pool 1 has paid what is void: RADIO1/1, RADIO2/1; {cure}",
+        f"note: pool 2 has paid what is void: RADIO1/2; {cure}",
+        f"note: {quarter.GAMMA} has files that wait, which this order does not count",
+    ]
 
 
 def test_an_order_is_rehearsed(copy: pathlib.Path, tmp_path: pathlib.Path, program: str) -> None:

@@ -66,12 +66,16 @@ def test_a_line_of_a_list_that_names_none(copy: pathlib.Path, line: str, decided
 
 
 REFUSED = {
-    "RADIO1/1": "RADIO1/1: paid by pool 1",
+    "RADIO1/1": "RADIO1/1: RADIO1/1: paid by pool 1",
     "RADIO9/1": "RADIO9/1: no such return is stored",
-    "TV1/1-99": "TV1/3-99: not stored; TV1/2: void",
+    "TV1/1-99": "TV1/1-99: TV1/3-99: not stored; TV1/2: void",
     "TVI": "TVI: no such return is stored",
-    "TV1/2": "TV1/2: void",
+    "TV1/2": "TV1/2: TV1/2: void",
     "RADIO2": "RADIO2: none of its returns can be named: RADIO2/1: paid by pool 1; RADIO2/2: paid by pool 3",
+    "RADIO1/4,6-7,9": "RADIO1/4,6-7,9: RADIO1/6-7,9: not stored",
+    "TV1/1-2,8": "TV1/1-2,8: TV1/8: not stored; TV1/2: void",
+    "RADIO1/1-4": "RADIO1/1-4: RADIO1/1: paid by pool 1; RADIO1/2: paid by pool 2; RADIO1/3: paid by pool 3",
+    "RADIO1/1,3-4": "RADIO1/1,3-4: RADIO1/1: paid by pool 1; RADIO1/3: paid by pool 3",
 }
 
 
@@ -80,7 +84,12 @@ def test_returns_that_were_asked_for_and_cannot_be_paid(copy: pathlib.Path, word
     (decided / "void.txt").write_text(quarter.VOID)
     target = copy.with_name("order.json")
     said = run("propose", copy, "--amount", 1, "--returns", "RADIO1", "--returns", words, "--output", target, status=1)
-    assert REFUSED[words] in said and said.count("\n") == 1 and not target.exists()
+    assert said == f"society-office: --returns: {REFUSED[words]}\n" and not target.exists()
+
+
+def test_all_that_was_asked_for_wrongly_is_told(copy: pathlib.Path) -> None:
+    said = run("propose", copy, "--amount", 1, "--returns", "TV1/8", "--returns", "TV1/1-2", "--returns", "RADIO1/3-4", status=1)
+    assert said == "society-office: --returns: TV1/8: no such return is stored; --returns: RADIO1/3-4: RADIO1/3: paid by pool 3\n"
 
 
 def test_only_what_was_asked_for_is_named(copy: pathlib.Path) -> None:
