@@ -13,7 +13,8 @@ from office_value import Pool, Return, order_body
 from society_office import rehearsal_output
 from society_office.copy import open_copy
 from society_office.orders import Wanted, propose
-from society_office.stored_returns import Stored
+from society_office.rehearsal import notes_on_returns
+from society_office.stored_returns import Stored, far_ones
 from test_statements import run
 
 PLAYS = [("ATABC2600001", 3, 100), ("DEBET2600003", 2, 50)]
@@ -87,6 +88,36 @@ def test_returns_that_are_far_from_others(office: pathlib.Path, program: str, de
     with open_copy(office) as opened:
         remarks = propose(opened, 5, "PR", Wanted(), []).remarks
     assert "RADIO4/3 has 10,500 points, 10 times those of the station's others: look at it" in remarks
+
+
+@pytest.mark.parametrize(
+    "points, what",
+    [
+        ((100, 1_000, 1_000), "100 points, and the station's others 1,000 in the middle"),
+        ((101, 1_000, 1_000), ""),
+        # (that it is small is told beside two others)
+        ((100, 1_000), ""),
+        ((1_000, 100), "1,000 points, 10 times those of the station's others"),
+        ((999, 100), ""),
+    ],
+)
+def test_just_ten_times_and_a_tenth_are_far(points: tuple[int, ...], what: str) -> None:
+    stored = {("RADIO1", k): Stored("RADIO1", k, 1, it, b"", 0) for k, it in enumerate(points, 1)}
+    assert list(far_ones([stored["RADIO1", 1]], stored, [])) == ([f"RADIO1/1 has {what}: look at it"] if what else [])
+
+
+@pytest.mark.parametrize("amount", [0, 5])
+def test_what_an_order_with_units_names(copy: pathlib.Path, amount: int) -> None:
+    own, silent, plays = Stored("AMEND1", 99_999, 0, 0, b"", 0), Stored("RADIO9", 1, 1, 0, b"0", 0), Stored("RADIO9", 2, 1, 7, b"7", 0)
+
+    def told(*named: Stored) -> list[str]:
+        with open_copy(copy) as opened:
+            return list(notes_on_returns(opened, {"amount": amount}, named, {it.key: it for it in named}, []))
+
+    none = "it names no return with a play: all of it goes to UNCLAIMED"
+    mixed = "AMEND1/99999 is of the office itself, and has to be paid by an order of its own, without plays"
+    assert told() == told(silent) == ([none] if amount else [])
+    assert told(silent, plays) == [] and told(own, plays) == ([mixed] if amount else [])
 
 
 def test_what_is_void_and_what_is_left_out(office: pathlib.Path, program: str, decided: pathlib.Path) -> None:

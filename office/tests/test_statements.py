@@ -107,8 +107,8 @@ def test_a_large_statement_has_every_sum(copy: pathlib.Path, key: str) -> None:
     assert {it.words: it.units for it in found.by_work} == by_work
     assert {it.words: it.units for it in found.by_account} == (by_account if key in quarter.NAMES else {})
     if len(wanted) > 1:
-        assert f"{len(wanted)} credits, too many for a table: `--format csv` has every one" in run("statement", copy, key)
-        assert f"{len(wanted) - 1} more lines: society-office statement COPY {key}" in run("statement", copy, key, "--format", "html")
+        assert f"\n{len(wanted)} credits, too many for a table: `--format csv` has every one of them\n" in run("statement", copy, key)
+        assert f">{len(wanted) - 1} more lines: society-office statement COPY {key}" in run("statement", copy, key, "--format", "html")
 
 
 @pytest.mark.parametrize("key", sorted([*reckoning.balances(quarter.OFFICE), *quarter.NAMES]))
@@ -245,7 +245,7 @@ def test_a_page_tells_how_many_accounts_it_leaves_out(copy: pathlib.Path, monkey
     monkeypatch.setattr(statement_output, "MOST_LINES", 2)
     accounts = {it[6] for it in earned_by(quarter.ALPHA)}
     assert len(accounts) > 2
-    assert f"{len(accounts) - 2} more accounts with less" in run("statement", copy, quarter.ALPHA, "--format", "html")
+    assert f">{len(accounts) - 2} more accounts with less." in run("statement", copy, quarter.ALPHA, "--format", "html")
 
 
 def test_a_page_counts_works(copy: pathlib.Path) -> None:
