@@ -139,14 +139,14 @@ def test_an_order_is_proposed(copy: pathlib.Path, decided: pathlib.Path) -> None
 
 
 def test_what_stands_beside_a_proposed_order_is_told(copy: pathlib.Path, decided: pathlib.Path) -> None:
-    (decided / "void.txt").write_text("RADIO9\nTV1/1-2\nRADIO2/1\nRADIO1/2\nRADIO1/1\n")
+    (decided / "void.txt").write_text("RADIO9\nTV1/2\nRADIO2/1\nRADIO1/2\nRADIO1/1\n")
     words = ["propose", str(copy), "--amount", "1000", "--kind", "MR", "--cut", f"{quarter.BETA}=0"]
     ended = CliRunner(mix_stderr=False).invoke(main, words)
     twice = "the same plays as RADIO1/3, paid by pool 3 in the PR: right only where it is to be paid in both"
     cure = "`society-office dues` tells who has too much by it"
     assert ended.stderr.splitlines()[1:] == [
-        "4 senders, 1 return; pool 6 is free",
-        "left out: TV1/1-2, void",
+        "4 senders, 2 returns; pool 6 is free",
+        "left out: TV1/2, void",
         f"note: RADIO1/4 has {twice}",
         f"note: {decided}/void.txt, line 1: RADIO9: no such return is stored",
         f"note: pool 1 has paid what is void: RADIO1/1, RADIO2/1; {cure}",
