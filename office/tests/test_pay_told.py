@@ -115,9 +115,11 @@ def test_a_name_may_be_any_word(copy: pathlib.Path, place: pathlib.Path, tmp_pat
 
 
 def test_who_pays_has_to_be_written(copy: pathlib.Path, place: pathlib.Path, tmp_path: pathlib.Path) -> None:
-    (place / "payments.txt").write_text("currency EUR\nname X\n")
-    run("members", "note", "--why", "x")
-    assert "payments.txt does not say who pays and from where" in run("pay", copy, "--into", tmp_path / "out", "--why", "x", status=1)
+    for words in ("name X", f"iban {IBAN}"):
+        (place / "payments.txt").write_text(f"currency EUR\n{words}\n")
+        run("members", "note", "--why", "x")
+        assert "payments.txt does not say who pays and from where" in run("pay", copy, "--into", tmp_path / "out", "--why", "x", status=1)
+    assert not (tmp_path / "out").exists() and home.read(None).ledger.lines == []
 
 
 def test_check_tells_accounts_without_a_member_and_members_without_a_credit(copy: pathlib.Path, place: pathlib.Path) -> None:

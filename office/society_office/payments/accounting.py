@@ -100,8 +100,7 @@ class Account:
 
     def amount(self, units: int) -> str:
         """Units as an amount of the currency, with commas between thousands."""
-        whole, point, part = self.words.amount(abs(units)).partition(".")
-        return f"{'-' if units < 0 else ''}{int(whole):,}{point}{part}"
+        return self.words.shown(units)
 
 
 class Accounts:

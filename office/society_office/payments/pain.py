@@ -33,9 +33,18 @@ class Office:
     per_unit: int
     decimals: int
 
+    @property
+    def words(self) -> Words:
+        """Its money."""
+        return Words(currency=self.currency, units=self.per_unit, decimals=self.decimals)
+
     def amount(self, units: int) -> str:
         """Units as an amount of the currency."""
-        return Words(currency=self.currency, units=self.per_unit, decimals=self.decimals).amount(units)
+        return self.words.amount(units)
+
+    def shown(self, units: int) -> str:
+        """Units as an amount that people read, with commas between thousands."""
+        return self.words.shown(units)
 
 
 @dataclasses.dataclass(frozen=True)

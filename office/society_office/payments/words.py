@@ -55,6 +55,11 @@ class Words:
         sign = "-" if units < 0 else ""
         return f"{sign}{whole}.{part:0{self.decimals}d}" if self.decimals else f"{sign}{whole}"
 
+    def shown(self, units: int) -> str:
+        """Units as an amount that people read, with commas between thousands, as 1,234.71."""
+        whole, point, part = self.amount(abs(units)).partition(".")
+        return f"{'-' if units < 0 else ''}{int(whole):,}{point}{part}"
+
     def units_of(self, amount: str) -> int | None:
         """An amount as a bank writes it, in units; None where it is none, or has parts of a coin."""
         found = re.fullmatch(r"([0-9]{1,15})(?:[.,]([0-9]{1,5}))?", amount, re.ASCII)
