@@ -16,6 +16,28 @@ HEADER = ",".join(members.COLUMNS)
 IBAN, OTHER = "AT611904300234573201", "DE89370400440532013000"
 ANNA = f"M1,Anna Writer,Road 1,1010,Wien,AT,de,{IBAN},BKAUATWW,1000,domestic,anna@example.org,I00000000295"
 BORIS = "M2,Boris,,,,AT,,otherwise,,,,,PPB000000012B/7"
+# The example of each country, as the registry of ISO 13616 has it.
+IBANS = (
+    "AD1200012030200359100100 AE070331234567890123456 AL47212110090000000235698741 AT611904300234573201 AZ21NABZ00000000137010001944 "
+    "BA391290079401028494 BE68539007547034 BG80BNBG96611020345678 BH67BMAG00001299123456 BI4210000100010000332045181 "
+    "BR1800360305000010009795493C1 BY13NBRB3600900000002Z00AB00 CH9300762011623852957 CR05015202001026284066 "
+    "CY17002001280000001200527600 CZ6508000000192000145399 DE89370400440532013000 DJ2100010000000154000100186 DK5000400440116243 "
+    "DO28BAGR00000001212453611324 EE382200221020145685 EG380019000500000000263180002 ES9121000418450200051332 FI2112345600000785 "
+    "FK88SC123456789012 FO6264600001631634 FR1420041010050500013M02606 GB29NWBK60161331926819 GE29NB0000000101904917 "
+    "GI75NWBK000000007099453 GL8964710001000206 GR1601101250000000012300695 GT82TRAJ01020000001210029690 HN88CABF00000000000250005469 "
+    "HR1210010051863000160 HU42117730161111101800000000 IE29AIBK93115212345678 IL620108000000099999999 IQ98NBIQ850123456789012 "
+    "IS140159260076545510730339 IT60X0542811101000000123456 JO94CBJO0010000000000131000302 KW81CBKU0000000000001234560101 "
+    "KZ86125KZT5004100100 LB62099900000001001901229114 LC55HEMM000100010012001200023015 LI21088100002324013AA LT121000011101001000 "
+    "LU280019400644750000 LV80BANK0000435195001 LY83002048000020100120361 MC5811222000010123456789030 MD24AG000225100013104168 "
+    "ME25505000012345678951 MK07250120000058984 MN121234123456789123 MR1300020001010000123456753 MT84MALT011000012345MTLCAST001S "
+    "MU17BOMM0101101030300200000MUR NI45BAPR00000013000003558124 NL91ABNA0417164300 NO9386011117947 OM810180000001299123456 "
+    "PK36SCBL0000001123456702 PL61109010140000071219812874 PS92PALS000000000400123456702 PT50000201231234567890154 "
+    "QA58DOHB00001234567890ABCDEFG RO49AAAA1B31007593840000 RS35260005601001611379 RU0204452560040702810412345678901 "
+    "SA0380000000608010167519 SC18SSCB11010000000000001497USD SD8811123456789012 SE4550000000058398257466 SI56263300012039086 "
+    "SK3112000000198742637541 SM86U0322509800000000270100 SO211000001001000100141 ST23000100010051845310146 "
+    "SV62CENR00000000000000700025 TL380080012345678910157 TN5910006035183598478831 TR330006100519786457841326 "
+    "UA213223130000026007233566001 VA59001123000012345678 VG96VPVG0000012345678901 XK051212012345678906 YE15CBYE0001018861234567891234"
+).split()
 
 
 @pytest.fixture
@@ -27,18 +49,18 @@ def place(decided: pathlib.Path) -> pathlib.Path:
     return decided / "payments"
 
 
-@pytest.mark.parametrize(
-    "iban",
-    "AT611904300234573201 DE89370400440532013000 GB29NWBK60161331926819 FR1420041010050500013M02606 NO9386011117947 "
-    "MT84MALT011000012345MTLCAST001S CH9300762011623852957 BR1800360305000010009795493C1 LC55HEMM000100010012001200023015".split(),
-)
+# Neighbours that come to the same number whichever of them is first: 11 and 1, 22 and 2, 33 and 3.
+ALIKE = [{"B", "1"}, {"M", "2"}, {"X", "3"}]
+
+
+@pytest.mark.parametrize("iban", IBANS)
 def test_ibans_of_the_registry_are_right_and_no_digit_of_them_can_be_wrong(iban: str) -> None:
     assert bank_accounts.iban_fault(iban) == ""
     for k in range(2, len(iban)):
         wrong = iban[:k] + ("1" if iban[k] != "1" else "2") + iban[k + 1 :]
         assert bank_accounts.iban_fault(wrong) != "", wrong
     for k in range(4, len(iban) - 1):
-        if iban[k] != iban[k + 1]:
+        if iban[k] != iban[k + 1] and {iban[k], iban[k + 1]} not in ALIKE:
             assert bank_accounts.iban_fault(iban[:k] + iban[k + 1] + iban[k] + iban[k + 2 :]) != ""
 
 
@@ -57,6 +79,18 @@ def test_an_iban_that_is_wrong_is_told_without_its_digits(iban: str, said: str) 
     assert bank_accounts.iban_fault(iban).startswith(said) and iban not in bank_accounts.iban_fault(iban)
 
 
+def test_each_country_with_ibans_has_an_example() -> None:
+    assert [it[:2] for it in IBANS] == sorted(bank_accounts.LENGTHS)
+
+
+@pytest.mark.parametrize(
+    "bic, is_right",
+    [("BKAUATWW", True), ("BKAUATWWXXX", True), ("BKAUATW2B01", True), ("BKAUATWWXX", False), ("1KAUATWW", False), ("BKAUATWWXXXX", False)],
+)
+def test_a_bic_has_8_or_11_letters(bic: str, is_right: bool) -> None:
+    assert (bank_accounts.bic_fault(bic) == "") == is_right
+
+
 @pytest.mark.parametrize(
     "row, said",
     [
@@ -66,6 +100,7 @@ def test_an_iban_that_is_wrong_is_told_without_its_digits(iban: str, said: str) 
         (ANNA.replace("Anna Writer", "Anna\u202eretirW"), "name: write it in one line"),
         (ANNA.replace("Anna Writer", "王小明"), "name: no letter of it is taken by banks"),
         (ANNA.replace("Wien", ""), "town: banks want the town"),
+        (ANNA.replace("Wien", "王"), "town: banks want the town"),
         (ANNA.replace(IBAN, IBAN[:-1] + "2"), "iban: it has check digits that don't fit"),
         (ANNA.replace(IBAN, ""), "iban: write it, or `otherwise`"),
         (ANNA.replace("BKAUATWW", "BKAUATW"), "bic: it is no BIC"),
@@ -142,6 +177,14 @@ def test_members_come_from_a_spreadsheet(place: pathlib.Path, tmp_path: pathlib.
     sheet.write_text("member,name,country,iban,accounts\nM11,Zed,AT,otherwise,I00000000295\n")
     assert "I00000000295 is of M1 and M11" in run("members", "import", sheet, "--why", "x", status=1)
     assert (place / "members.csv").read_bytes() == before
+
+
+def test_an_import_leaves_every_cell_of_other_members(place: pathlib.Path, tmp_path: pathlib.Path) -> None:
+    new = f"M0,Neu,Road 9,4020,Linz,AT,en,{OTHER},BKAUATWWXXX,7,foreign,neu@example.org,I00000000301 from 2026-02-01"
+    sheet = tmp_path / "sheet.csv"
+    sheet.write_text(f"{HEADER}\n{new}\n")
+    assert run("members", "import", sheet, "--why", "x") == "1 new member, 0 changed, 0 as before\n"
+    assert (place / "members.csv").read_text() == f"{HEADER}\n{new}\n{ANNA}\n{BORIS}\n"
 
 
 @pytest.mark.parametrize("umask", [0o000, 0o022, 0o077])
