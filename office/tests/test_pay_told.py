@@ -70,7 +70,7 @@ def test_the_list_to_sign(copy: pathlib.Path, place: pathlib.Path, tmp_path: pat
     last = (listed[3][it] for it in ("name", "units", "amount", "currency"))
     assert tuple(last) == ("'=Beta <b> Verlag", "602787", "6027.87", "EUR")
     page = (tmp_path / "out/list-1.html").read_text()
-    assert "=Beta &lt;b&gt; Verlag" in page and "53056.26" in page and "47028.39" in page and "6027.87" in page
+    assert "=Beta &lt;b&gt; Verlag" in page and ">53,056.26<" in page and ">47,028.39<" in page and ">6,027.87<" in page
     assert home.read(None).ledger.batches[1].file_sum in page and "Approved: ___" in page
     assert home.read(None).ledger.batches[1].file_sum == decisions.sum_of((tmp_path / "out/payment-1.xml").read_bytes())
 

@@ -109,6 +109,20 @@ def test_each_field_of_a_payment_file() -> None:
     assert pain.payment_file(order(payees)) == content
 
 
+def test_who_pays_in_a_payment_file() -> None:
+    paying = Office(7, "x" * 200, IBAN, BIC, "EUR", 100, 2)
+    content = pain.payment_file(order([payee(1)], paying))
+    root = fields(content)
+    check_texts(root)
+    assert (root.findtext(".//InitgPty/Nm"), root.findtext(".//Dbtr/Nm"), root.findtext(".//Ustrd")) == ("x" * 70, "x" * 70, "x" * 140)
+    assert (root.findtext(".//DbtrAcct/Id/IBAN"), root.findtext(".//DbtrAgt/FinInstnId/BICFI")) == (IBAN, BIC)
+    assert root.findtext(".//MsgId") == root.findtext(".//PmtInfId") == "007-PAY-12"
+    assert root.findtext(".//InstrId") == root.findtext(".//EndToEndId") == "007-PAY-12-M1"
+    listed = f"reference,amount,day\n{root.findtext('.//EndToEndId')},4.71,2026-04-07\n"
+    [found], others = bank_lists.read(listed.encode(), "x", Words(), False)
+    assert (found.society, found.batch, found.member, others) == (7, 12, "M1", 0)
+
+
 def refused(content: bytes, folder: pathlib.Path) -> str:
     """What xmllint says against a payment file by the schema of the message; nothing of one that is right."""
     if shutil.which("xmllint") is None:
@@ -182,7 +196,8 @@ def test_amounts_of_a_currency(currency: str, per: int, decimals: int, units: in
     root = fields(pain.payment_file(order([payee(1, units=units)], office(currency, per, decimals))))
     found = root.find(".//InstdAmt")
     assert found is not None and (found.text, found.get("Ccy")) == (amount, currency) and root.findtext(".//CtrlSum") == amount
-    assert (root.find(".//PmtTpInf") is not None) == (currency == "EUR") and root.findtext(".//ChrgBr") in ("SLEV", "SHAR")
+    assert (root.find(".//PmtTpInf") is not None) == (currency == "EUR")
+    assert root.findtext(".//ChrgBr") == ("SLEV" if currency == "EUR" else "SHAR")
     words = Words(currency=currency, units=per, decimals=decimals)
     assert words.units_of(amount) == units and words.amount(units) == amount and words.amount(-units) == f"-{amount}"
     assert units % words.step == 0
@@ -225,6 +240,35 @@ def test_a_notification_tells_what_was_paid_and_what_came_back(are_returns: bool
     assert found.is_return == are_returns and found.why == ("AC04" if are_returns else "") and others == 1
     older = text.replace("camt.054.001.08", "camt.054.001.02").replace("<Amt Ccy='EUR'>4.71</Amt><RtrInf>", "<RtrInf>")
     assert bank_lists.read(b"\xef\xbb\xbf" + older.encode(), "x.xml", Words(), False)[0] == [found]
+
+
+@pytest.mark.parametrize(
+    "entry, own, reason, came_back",
+    [
+        ("DBIT", "", False, False),
+        ("CRDT", "", False, True),
+        ("DBIT", "", True, True),
+        ("CRDT", "", True, True),
+        ("DBIT", "CRDT", False, True),
+        ("CRDT", "DBIT", False, False),
+        ("DBIT", "DBIT", True, True),
+    ],
+)
+def test_what_came_back_by_its_side_or_its_reason(entry: str, own: str, reason: bool, came_back: bool) -> None:
+    side = f"<CdtDbtInd>{own}</CdtDbtInd>" if own else ""
+    told = "<RtrInf><Rsn><Cd>AC04</Cd></Rsn><AddtlInf>closed</AddtlInf></RtrInf>" if reason else ""
+    text = camt([("900-PAY-12-M1", "4.71")], False).replace("<CdtDbtInd>DBIT<", f"<CdtDbtInd>{entry}<")
+    text = text.replace("</TxDtls>", f"{side}{told}</TxDtls>")
+    [found], others = bank_lists.read(text.encode(), "x", Words(), False)
+    assert (found.is_return, found.why, others) == (came_back, "AC04 closed" if reason else "", 0)
+
+
+def test_the_day_is_that_of_the_banks_book() -> None:
+    booked = "<BookgDt><Dt>2026-12-01</Dt></BookgDt>"
+    for value in ("<ValDt><Dt>2026-12-09</Dt></ValDt>", "<ValDt><DtTm>2026-12-09T10:00:00Z</DtTm></ValDt>"):
+        text = camt([("900-PAY-12-M1", "4.71")], False).replace(booked, value + booked)
+        [found], _ = bank_lists.read(text.encode(), "x", Words(), False)
+        assert found.day == datetime.date(2026, 12, 1)
 
 
 @pytest.mark.parametrize(

@@ -136,6 +136,7 @@ WRONG = [
     (CREDITED._replace(member="M2"), "pool 3 was credited to I00000000199 already"),
     (CREDITED._replace(words="PR I00000000295", day=NOW.date()), "the day of pool 3 is 2026-03-31"),
     (CREDITED._replace(words="PR UNCLAIMED"), "what nobody was paid is of no member"),
+    (CREDITED._replace(member="UNCLAIMED", words="PR I00000000295"), "what nobody was paid is of no member"),
     (CREDITED._replace(words="XX I00000000295"), "a credit has units"),
     (CREDITED._replace(words="PR I00000000295", units=0), "a credit has units"),
     (CREDITED._replace(member="m1"), "is no member's key"),
@@ -171,6 +172,15 @@ def test_a_line_that_does_not_agree_with_those_before_it_is_not_written(entry: E
         ([ORDERS[0]._replace(place=2, units=299), ORDERS[1]._replace(place=2, units=300)], "the orders of batch 2 come to 300 units"),
         ([ORDERS[0]._replace(place=2), Entry(Kind.ADJUSTED, DAY, "M1", 5, 0, "x")], "batch 2 has 0 orders of 1"),
         ([ORDERS[0]._replace(place=2)], "batch 2 has 0 orders of 1"),
+        ([Entry(Kind.DEDUCTED, DAY, "M1", 600, 3, "a"), Entry(Kind.DEDUCTED, DAY, "M1", 401, 3, "b")], "it deducts 401 units"),
+        (
+            [
+                CREDITED._replace(member="UNCLAIMED", words="PR UNCLAIMED"),
+                ORDERS[0]._replace(place=2),
+                ORDERS[1]._replace(place=2, member="UNCLAIMED"),
+            ],
+            "it orders 700 units, and UNCLAIMED is owed 1,000",
+        ),
     ],
 )
 def test_lines_that_can_not_follow_each_other_are_not_written(entries: list[Entry], said: str) -> None:
@@ -300,6 +310,8 @@ def test_no_more_is_written_off_than_is_due_to_others(program: str, tmp_path: pa
     words[2] = -250
     assert run(*words) == "UNCLAIMED is owed 750 units\n"
     assert "350 units of UNCLAIMED are to be written off" in run(*[*words[:2], -351, *words[3:]], status=1)
+    assert run(*[*words[:2], -350, *words[3:]]) == "UNCLAIMED is owed 400 units\n"
+    assert "0 units of UNCLAIMED are to be written off" in run(*[*words[:2], -1, *words[3:]], status=1)
     assert run("adjust", "UNCLAIMED", -1, "--why", "x", status=2).endswith("UNCLAIMED and --copy belong together\n")
 
 
