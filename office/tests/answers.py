@@ -23,7 +23,10 @@ def check_explained(copy: pathlib.Path, office: Office, pool: int, account: str)
     points = reckoning.points(office, returns)
     wanted = [it for it in reckoning.credits(office, pool) if it[1] == account]
     assert (found["right"], found["amount"], found["points"]) == (right, amount, sum(points.values()))
-    assert [(it["isrc"], account, it["units"]) for it in found["credits"]] == wanted
+    assert [(it["isrc"], account, it["units"]) for it in found["credits"]] == wanted and found["units"] == sum(it[2] for it in wanted)
+    for it in (one[which] for one in found["credits"] for which in ("recording", "share")):
+        assert (it["whole"], it["remainder"]) == divmod(it["amount"] * it["weight"], it["all_weights"])
+        assert it["last"] == it["units"] - it["whole"] == (it["place"] <= it["left"])
     for it in found["credits"]:
         isrc, owners = it["isrc"], reckoning.claimants(office, pool, it["isrc"])
         assert {(one["reporter"], one["number"], one["seconds"]): one["plays"] for one in it["plays"]} == plays_of(office, pool, isrc)

@@ -364,6 +364,13 @@ def test_the_first_credit_that_differs_is_told() -> None:
     assert closing.difference(was, other) == "rehearsed were 5 units of A for X, and the office has credited 5 units of A for Y"
 
 
+def test_the_right_of_an_order_is_told(decided: pathlib.Path) -> None:
+    for kind, right in (({}, "PR"), ({"kind": "MR"}, "MR")):
+        it = closing.Plan(b"{}", {**kind, "amount": 5_000, "returns": []}, 6)
+        closing.ask_for(decisions.read(decided), it, decided / "order.json", "why")
+        assert it.words == f"pool 6: 5,000 units of the {right}" and told(decided)[-1] == f"asked for a pool: 5,000 units of the {right}"
+
+
 def test_of_returns_of_the_office_those_of_the_pools_number_are_sent() -> None:
     returns = [["AMEND1", 6], ["LATE00000001", 7], ["RADIO1", 6]]
     assert closing.Plan(b"{}", {"amount": 5, "returns": returns}, 6).own == [("AMEND1", 6)]

@@ -42,6 +42,13 @@ def test_nobody_is_no_account_that_lacks(capsys: pytest.CaptureFixture[str]) -> 
     assert "lacking: 5 units of 1 account\n" in said and "too much" not in said and "written off was credited" not in said
 
 
+def test_sums_of_an_account_count_recordings(capsys: pytest.CaptureFixture[str]) -> None:
+    listed = [dues_output.Line(("PR", it), due, paid) for it, due, paid in ((A, 9, 2), (B, 0, 1_001), ("ATABC0000002", 5, 6), ("-", 3, 3))]
+    dues_output.show(terminal.console(), listed, dues_output.OF_ACCOUNT)
+    sums = ["lacking: 7 units of 1 recording", "too much: 1,002 units of 2 recordings"]
+    assert [it for it in capsys.readouterr().out.splitlines() if ": " in it] == sums
+
+
 def made_up(chain: Chain, number: int, units: int, rows: str) -> None:
     """Closes a make-up over these rows, at the first cut."""
     chain.ledger.send_return(("DUE00000001", number), ROWLESS + rows)

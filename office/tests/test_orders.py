@@ -8,8 +8,8 @@ import pytest
 import quarter
 import reckoning
 from click.testing import CliRunner
-from conftest import further
-from office_value import File, Pool, Return, order_body
+from conftest import further, made
+from office_value import File, Office, Pool, Return, order_body
 from society_office.cli import main
 from society_office.copy import open_copy
 from society_office.orders import Wanted, pool_for, propose
@@ -153,6 +153,16 @@ def test_what_stands_beside_a_proposed_order_is_told(copy: pathlib.Path, decided
         f"note: pool 2 has paid what is void: RADIO1/2; {cure}",
         f"note: {quarter.GAMMA} has files that wait, which this order does not count",
     ]
+
+
+def test_a_return_of_the_office_itself_is_not_proposed(program: str, tmp_path: pathlib.Path) -> None:
+    plays, own = Return("RADIO1", 1, [("ATABC2600001", 1, 1)]), Return("LATE3F0A9C21", 99_999, [("ATABC2600001", 5, 1)])
+    copy = made(program, Office(quarter.NAMES, [plays, own]), tmp_path)
+    words = ["propose", copy, "--amount", 5, "--no-files"]
+    assert json.loads(run(*words))["returns"] == [["RADIO1", 1]]
+    name = "LATE3F0A9C21/99999"
+    why = f"{name}: a return of the office itself, which has an order of its own"
+    assert run(*words, "--returns", name, status=1) == f"society-office: --returns: {name}: {why}\n"
 
 
 def test_an_order_is_rehearsed(copy: pathlib.Path, tmp_path: pathlib.Path, program: str) -> None:

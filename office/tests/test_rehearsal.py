@@ -8,8 +8,8 @@ import pytest
 import quarter
 import reckoning
 from answers import rows_of
-from conftest import further
-from office_value import Pool, Return, order_body
+from conftest import further, made
+from office_value import File, Office, Pool, Return, order_body
 from society_office import rehearsal_output
 from society_office.copy import open_copy
 from society_office.orders import Wanted, propose
@@ -132,6 +132,14 @@ def test_what_is_void_and_what_is_left_out(office: pathlib.Path, program: str, d
     assert f"the cut counts {quarter.BETA} up to 1, and its files are applied up to 26-0002" in found
     assert f"the cut does not count {quarter.DELTA}, whose files are applied up to 2" in found
     assert "it names no return with a play: all of it goes to UNCLAIMED" in found
+
+
+def test_files_that_all_wait_are_told_to_wait(program: str, tmp_path: pathlib.Path) -> None:
+    waits = File(quarter.ALPHA, 2, "transmissions/2", [quarter.nwr("A1", "SONG", "ATABC2600001", quarter.ANNA)])
+    copy = made(program, Office(quarter.NAMES, [Return("RADIO3", 1, PLAYS), waits]), tmp_path)
+    assert notes(copy, program, Pool(6, "PR", 5, {}, [("RADIO3", 1)])) == [
+        f"{quarter.ALPHA} has files that wait, which this order does not count"
+    ]
 
 
 def test_a_key_that_stands_twice(office: pathlib.Path, program: str, tmp_path: pathlib.Path) -> None:

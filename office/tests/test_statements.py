@@ -63,6 +63,8 @@ def test_a_publishers_statement_has_what_its_works_earned(copy: pathlib.Path, se
     )
     assert sorted(found.credits) == wanted
     assert found.name == quarter.NAMES[sender]
+    if wanted:
+        assert run("statement", copy, sender).endswith(f"\n{sum(it[-1] for it in wanted):,} units in all, over all accounts\n")
 
 
 # Names of pools that a CSV has to quote, or to keep from being formulas.
@@ -108,6 +110,8 @@ def test_a_large_statement_has_every_sum(copy: pathlib.Path, key: str) -> None:
     assert {it.words: it.units for it in found.by_account} == (by_account if key in quarter.NAMES else {})
     if len(wanted) > 1:
         assert f"\n{len(wanted)} credits, too many for a table: `--format csv` has every one of them\n" in run("statement", copy, key)
+        greatest = f"\nBy work, the greatest 1 of {len(by_work)}\n" if len(by_work) > 1 else "\nBy work\n"
+        assert greatest in re.sub(" +\n", "\n", run("statement", copy, key))
         assert f">{len(wanted) - 1} more lines: society-office statement COPY {key}" in run("statement", copy, key, "--format", "html")
 
 
@@ -311,8 +315,13 @@ def test_all_statements_of_balances_that_differ(copy: pathlib.Path, tmp_path: pa
     with changed(copy) as database:
         database.execute("UPDATE balances SET units = units + 1 WHERE account = 'I00000000295'")
         database.execute("UPDATE balances SET units = units - 1 WHERE account = 'I00000000199'")
-    said = run("statement", copy, "--all", "--into", tmp_path / "all", status=1)
-    assert "I00000000295: " in said and "I00000000199: " in said and said.count("they differ") == 2
+    words, balances = ["statement", copy, "--all", "--into", tmp_path / "all"], reckoning.balances(quarter.OFFICE)
+    assert sorted(run(*words, status=1).splitlines()) == [
+        f"{it}: {balances[it]:,} units in all, BUT the balance is {balances[it] + more:,}: they differ"
+        for it, more in (("I00000000199", -1), ("I00000000295", 1))
+    ]
+    count = len({*balances, *quarter.NAMES} - {"UNCLAIMED"})
+    assert run(*words, status=1, out=True).endswith(f"{count} statements in {tmp_path / 'all'}, 2 of them differ from the balance\n")
     assert "they differ" in (tmp_path / "all/I00000000295/index.html").read_text()
 
 
