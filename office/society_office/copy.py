@@ -7,13 +7,13 @@ import pathlib
 import shutil
 import sqlite3
 import struct
-import tempfile
 from collections.abc import Iterator
 from typing import Any
 
 from society_office import book_log
 from society_office.errors import OfficeError
 from society_office.numbering import Line
+from society_office.throw_away import room
 
 BOOK = {"office", "transmissions", "returns", "pools", "pool_cuts", "pool_returns"}
 DERIVED = {"fronts", "verdicts", "versions", "recordings", "credits", "balances"}
@@ -264,8 +264,8 @@ def open_pair(path: pathlib.Path, log: pathlib.Path) -> Iterator[Copy]:
         raise OfficeError(
             f"{log} is not of {path}: it has pages of {others} bytes, and the file pages of {own}. Take it away from the copy"
         )
-    with tempfile.TemporaryDirectory(prefix="society-office-") as folder:
-        both = pathlib.Path(folder) / "copy.db"
+    with room() as folder:
+        both = folder / "copy.db"
         shutil.copyfile(path, both)
         shutil.copyfile(log, both.with_name("copy.db-wal"))
         with contextlib.closing(sqlite3.connect(both)) as database:

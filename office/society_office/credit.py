@@ -6,7 +6,6 @@ import io
 import json
 import pathlib
 import subprocess
-import tempfile
 from collections.abc import Callable, Iterable, Iterator, Sequence
 from typing import NamedTuple, TextIO
 
@@ -16,6 +15,7 @@ from society_office.errors import OfficeError
 from society_office.orders import Order
 from society_office.program import trial_of
 from society_office.return_names import Return
+from society_office.throw_away import room
 
 
 class Row(NamedTuple):
@@ -71,8 +71,8 @@ def asking(program: str, copy: Copy) -> Ask:
     def ask(asked: Sequence[Asked]) -> Iterator[list[Row]]:
         parts = [(place, one) for place, it in enumerate(asked) for one in it.parts]
         lines = "".join(f"{it.json}\n" for _, it in parts).encode()
-        with tempfile.TemporaryDirectory(prefix="society-office-") as folder:
-            database, out = pathlib.Path(folder) / "copy.db", pathlib.Path(folder) / "credits.csv"
+        with room() as folder:
+            database, out = folder / "copy.db", folder / "credits.csv"
             save_current(program, copy, database)
             with out.open("wb") as into:
                 words = [program, "credit", "--db", str(database), *copy.office_words]

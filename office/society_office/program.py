@@ -12,7 +12,6 @@ import shutil
 import socket
 import ssl
 import subprocess
-import tempfile
 import urllib.parse
 from collections.abc import Callable, Iterator
 from typing import Any
@@ -23,6 +22,7 @@ from society_office.errors import OfficeError
 from society_office.numbering import LAST_RANK, rank_of
 from society_office.plain_text import printable
 from society_office.soundness import BROKEN, CURE, need_sound
+from society_office.throw_away import room
 
 CHECKOUT = pathlib.Path(__file__).resolve().parent.parent.parent
 # Seconds that a throw-away office may take to listen, and to answer.
@@ -30,9 +30,9 @@ START, ANSWER = 600, 600
 MANY = 1_000_000
 # The header in which the proxy before a trial office says so, and what it says.
 KIND, TRIAL = "Society-Office", "trial"
-# What stands in no name of a host.
 # What an audit says that came to no end: nothing where it was killed.
 NOT_LOOKED_AT = re.compile("memory|database store")
+# What stands in no name of a host.
 UNPRINTED = re.compile(r"[\x00-\x20\x7f]")
 # An office answers so to what it takes, or has already, and tells one of these states.
 TAKEN = (200, 201, 202)
@@ -211,8 +211,8 @@ class Trial:
 @contextlib.contextmanager
 def trial_office(program: str, words: list[str], database: pathlib.Path | None = None) -> Iterator[Trial]:
     """A throw-away office over a copy of a file, or over an empty one; it is gone when the `with` ends."""
-    with tempfile.TemporaryDirectory(prefix="society-office-") as folder:
-        place = pathlib.Path(folder) / "trial.db"
+    with room() as folder:
+        place = folder / "trial.db"
         if database is not None:
             shutil.copyfile(database, place)
         port = free_port()
@@ -225,7 +225,7 @@ def trial_office(program: str, words: list[str], database: pathlib.Path | None =
             "--connections",
             str(MANY),
         ]
-        with (pathlib.Path(folder) / "errors").open("wb+") as errors:
+        with (folder / "errors").open("wb+") as errors:
             process = None
             try:
                 with signals.put_off():
@@ -248,8 +248,8 @@ def trial_office(program: str, words: list[str], database: pathlib.Path | None =
 @contextlib.contextmanager
 def trial_of(program: str, copy: Copy) -> Iterator[Trial]:
     """A throw-away office over what a copy holds, whatever stands beside it."""
-    with tempfile.TemporaryDirectory(prefix="society-office-") as folder:
-        whole = pathlib.Path(folder) / "whole.db"
+    with room() as folder:
+        whole = folder / "whole.db"
         copy.save(whole)
         with trial_office(program, copy.office_words, whole) as trial:
             yield trial
@@ -292,8 +292,8 @@ def audited(save: Callable[[pathlib.Path], object], words: list[str], program: s
 
     An OfficeError where there is no program, or it could not look at it, for want of memory or disk.
     """
-    with tempfile.TemporaryDirectory(prefix="society-office-") as folder:
-        place = pathlib.Path(folder) / "copy.db"
+    with room() as folder:
+        place = folder / "copy.db"
         save(place)
         done = subprocess.run([find_program(program), "audit", "--db", str(place), *words], capture_output=True, check=False)
     said = (done.stdout + done.stderr).decode(errors="replace").strip()

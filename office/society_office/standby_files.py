@@ -9,12 +9,12 @@ is in service, keeps what it has: nothing is brought then.
 import pathlib
 import subprocess
 import sys
-import tempfile
 from collections.abc import Sequence
 
 from society_office import decisions
 from society_office.errors import OfficeError
 from society_office.journal import MOMENT
+from society_office.throw_away import room
 
 USAGE = "society_office.standby_files: name a place as rsync takes it, the folder of decisions, and folders that go with it"
 
@@ -23,11 +23,11 @@ def bring(target: str, folder: pathlib.Path, more: Sequence[str]) -> str:
     """Brings the folder of decisions and others to a place; answers what was brought. An OfficeError where that may not be, or failed."""
     with decisions.locked(folder, is_writer=False):
         known = decisions.read_locked(folder)
-        with tempfile.TemporaryDirectory(prefix="society-office-") as there:
+        with room() as there:
             place = folder.absolute().relative_to("/")
             # (whose it is there does not matter here, and a unit may not make a folder that gives its group on)
-            run(["--recursive", "--relative", "--ignore-missing-args", f"{target.rstrip('/')}/./{place}", there])
-            refuse_own(target, pathlib.Path(there) / place, known)
+            run(["--recursive", "--relative", "--ignore-missing-args", f"{target.rstrip('/')}/./{place}", str(there)])
+            refuse_own(target, there / place, known)
         run(["--archive", "--relative", "--delete", "--delay-updates", str(folder.absolute()), *more, target])
     return f"{target} has the {known.words}"
 

@@ -66,7 +66,8 @@ def test_letters_that_the_locale_has_not(copy: pathlib.Path) -> None:
 def ended_by(copy: pathlib.Path, folder: pathlib.Path, number: int) -> tuple[int, int]:
     """The status of a command that gets a signal while its throw-away office starts, and the process of that office."""
     begun, room, slow = folder / "begun", folder / "room", folder / "slow"
-    room.mkdir()
+    room.mkdir(exist_ok=True)
+    begun.unlink(missing_ok=True)
     slow.write_text(f"#!/bin/sh\necho $$ > {begun}.new && mv {begun}.new {begun}\nexec sleep 600\n")
     slow.chmod(0o755)
     words = [*COMMAND, "rebuild", str(copy), "--program", str(slow)]
@@ -94,6 +95,10 @@ def test_a_kill_leaves_no_throw_away_office(copy: pathlib.Path, tmp_path: pathli
     while is_running(office) and time.monotonic() < until:
         time.sleep(0.01)
     assert (status, is_running(office)) == (-signal.SIGKILL, False)
+    # (what it has left, a book among it, goes with the next command)
+    assert len(list((tmp_path / "room").iterdir())) == 1
+    assert ended_by(copy, tmp_path, signal.SIGTERM)[0] == -signal.SIGTERM
+    assert list((tmp_path / "room").iterdir()) == []
 
 
 def is_running(process: int) -> bool:
