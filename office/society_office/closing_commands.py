@@ -84,7 +84,7 @@ def with_own(program: str, copy: Copy, it: Plan, beside: pathlib.Path) -> Iterat
             raise OfficeError(refusal)
         trial.end()
         with open_copy(trial.database) as found:
-            found.path, found.taken = copy.path, copy.taken
+            found.path, found.moment = copy.path, copy.moment
             yield found
 
 

@@ -1,6 +1,7 @@
 """A copy of the office's file, opened to be read and never written to, whatever its layout and whatever stands beside it."""
 
 import contextlib
+import datetime
 import fcntl
 import os
 import pathlib
@@ -34,7 +35,16 @@ class Copy:
         self.path, self.database, self.note = path, database, note
         self.layout = layout_of(path, database)
         self.society, self.territory, self.name = self.row("SELECT society, territory, name FROM office")
-        self.taken = path.stat().st_mtime
+        self.moment = path.stat().st_mtime
+
+    @property
+    def taken(self) -> float:
+        """When it was made, in seconds since 1970, by the time of its file; an OfficeError where no calendar has that."""
+        try:
+            datetime.datetime.fromtimestamp(self.moment).astimezone()
+        except (ValueError, OverflowError, OSError) as error:
+            raise OfficeError(f"{self.path} has a time that no calendar has, of a clock that was wrong: `touch {self.path}`") from error
+        return self.moment
 
     @property
     def office_words(self) -> list[str]:

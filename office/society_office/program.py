@@ -268,7 +268,7 @@ def open_whole(path: pathlib.Path) -> Iterator[Copy]:
         with trial_of(find_program(), copy) as trial:
             trial.end()
             with open_copy(trial.database) as taken_over:
-                taken_over.path, taken_over.taken = path, copy.taken
+                taken_over.path, taken_over.moment = path, copy.moment
                 taken_over.note = f"{path} is of layout 1: a throw-away copy of it was taken over by the program"
                 yield taken_over
 

@@ -1,6 +1,7 @@
 """Copies that are opened and refused: layouts, logs beside them, files in use, and files that are none."""
 
 import contextlib
+import os
 import pathlib
 import shutil
 import sqlite3
@@ -180,3 +181,20 @@ def test_the_file_of_an_office_that_runs_is_refused(copy: pathlib.Path, program:
             assert dict(opened.rows("SELECT account, units FROM balances")) == reckoning.balances(quarter.OFFICE)
         office.close()
         process.wait(60)
+
+
+@pytest.mark.parametrize("seconds", [-(10.0**11), 253_402_387_200.0, 10.0**18])
+def test_a_time_that_no_calendar_has(copy: pathlib.Path, seconds: float) -> None:
+    """A disk that keeps such a time is not everywhere."""
+    with open_copy(copy) as opened:
+        assert opened.taken == copy.stat().st_mtime
+        opened.moment = seconds
+        with pytest.raises(OfficeError, match=f"{copy} has a time that no calendar has, of a clock that was wrong: `touch {copy}`"):
+            opened.taken
+
+
+def test_a_copy_from_before_1970(copy: pathlib.Path) -> None:
+    os.utime(copy, (-(10**9), -(10**9)))
+    with open_copy(copy) as opened:
+        assert opened.taken == -(10**9)
+    assert "units of all pools out of the copy of 1938-04-2" in run("balances", copy, "--format", "ledger")
