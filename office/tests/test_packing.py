@@ -5,10 +5,12 @@ import re
 import shutil
 import subprocess
 import sys
+import tomllib
 import zipfile
 
 import pytest
 from conftest import ROOT
+from society_office import __version__
 
 
 def test_a_wheel_from_the_folder_alone(tmp_path: pathlib.Path) -> None:
@@ -20,11 +22,19 @@ def test_a_wheel_from_the_folder_alone(tmp_path: pathlib.Path) -> None:
     names = zipfile.ZipFile(folder / done.stdout.split()[-1]).namelist()
     packed = {it.relative_to(ROOT / "office").as_posix() for it in (ROOT / "office/society_office").rglob("*") if it.is_file()}
     assert {it for it in packed if "__pycache__" not in it} <= set(names)
-    assert "society_office/faults.json" in names
+    assert "society_office/faults.json" in names and f"society_office-{__version__}.dist-info/METADATA" in names
 
 
 def test_the_page_for_staff_has_the_same_faults() -> None:
     assert (ROOT / "examples/desk/faults.json").read_bytes() == (ROOT / "office/society_office/faults.json").read_bytes()
+
+
+def test_what_is_asked_for_only_where_it_is_used_is_suggested() -> None:
+    optional = tomllib.loads((ROOT / "office/pyproject.toml").read_text())["project"]["optional-dependencies"]
+    names = {re.split("[>=]", it)[0] for one in optional.values() for it in one}
+    assert names == {"weasyprint", "openpyxl"}
+    suggested = re.findall("^Suggests: (.*)$", (ROOT / "debian/control").read_text(), re.MULTILINE)[1].split(", ")
+    assert {"weasyprint", "python3-openpyxl"} <= set(suggested)
 
 
 def listed(name: str) -> list[list[str]]:
