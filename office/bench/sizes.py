@@ -183,6 +183,8 @@ def main() -> None:
         measured("explain", copy, f"I{writer(17)}", "--pool", "7" if options.pools >= 7 else "1", "--format", "csv")
         measured("balances", copy, "--output", f"{folder}/balances.csv")
         measured("parties", copy, "--output", f"{folder}/parties.csv")
+        for words in (["song", "77"], ["song", "77"], ["song", "--most", "1000", "--format", "json"]):
+            measured("works", copy, *words)
         measured("unclaimed", copy, "--pool", "1", "--format", "json")
         measured("unclaimed", copy)
         measured("propose", copy, "--amount", "100000", "--no-returns")

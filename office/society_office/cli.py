@@ -13,7 +13,7 @@ from typing import Any
 import click
 
 from society_office import __version__, account_commands, checking, closing_commands, decision_commands, dues_commands, findings
-from society_office import health, money_commands, parties, signals, standby_commands, statement_output, why, why_output
+from society_office import health, money_commands, parties, signals, standby_commands, statement_output, why, why_output, work_commands
 from society_office.command_words import COPY_HELP, NUMBER, PATH, POOL, PROGRAM_HELP, WRONG, Command, fail, looked_up, names_known
 from society_office.command_words import noted, with_decisions
 from society_office.copy import beside
@@ -317,6 +317,7 @@ def site(copy: pathlib.Path, into: pathlib.Path, folder: pathlib.Path | None) ->
     say(f"{count:,} files in {into}; begin with {into / 'index.html'}")
 
 
-for module in (account_commands, closing_commands, decision_commands, dues_commands, money_commands, payments, standby_commands):
+MODULES = (account_commands, closing_commands, decision_commands, dues_commands, money_commands, payments, standby_commands, work_commands)
+for module in MODULES:
     for command in module.COMMANDS:
         main.add_command(command)

@@ -5,7 +5,7 @@ import re
 from collections.abc import Iterable, Iterator, Sequence
 
 from society_office.copy import Copy
-from society_office.fields import IPI_DIGITS, ISRC, PARTIES, RECORD_TYPE, SENDER_NAME, TITLE, WORK_NUMBER, WORKS
+from society_office.fields import IPI_DIGITS, ISRC, ISWC, PARTIES, RECORD_TYPE, SENDER_NAME, TIMES, TITLE, WORK_NUMBER, WORKS
 from society_office.plain_text import printable
 
 GROUP = re.compile(rb"\nGRH(%s)[^\n]*" % b"|".join(WORKS))
@@ -64,6 +64,16 @@ class Transaction:
         return number_of(self.first)
 
     @property
+    def iswc(self) -> str:
+        """The ISWC, as people read it; the empty text where there is none."""
+        return text(ISWC.of(self.first.rstrip(b"\r")))
+
+    @property
+    def lines(self) -> list[bytes]:
+        """Its lines, without their ends."""
+        return [it.removesuffix(b"\r") for it in self.raw.split(b"\n")]
+
+    @property
     def isrcs(self) -> list[str]:
         """The recordings that its REC records name, each once, in their order."""
         return list(dict.fromkeys(it.decode() for it in RECORDING.findall(self.raw)))
@@ -90,6 +100,12 @@ def party_of(kind: bytes, line: bytes, sender: str) -> Party:
     if places.first_name:
         name = " ".join(filter(None, (text(places.first_name.of(line)), name)))
     return Party(account_of(sender, places.ipi.of(line), number), name, places.side, text(number))
+
+
+def made_on(head: bytes) -> str:
+    """The day on which a file was made, by its first line: 2026-01-05."""
+    day = TIMES[0][0].of(head).decode("latin-1")
+    return f"{day[:4]}-{day[4:6]}-{day[6:]}"
 
 
 def groups(body: bytes) -> Iterator[tuple[str, list[int], int]]:

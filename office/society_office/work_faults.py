@@ -234,5 +234,4 @@ def first_warnings(listed: Sequence[str]) -> Iterator[str]:
 
 def checked_work(body: bytes, work: Transaction, territory: int) -> CheckedWork:
     """One work of a file that was accepted, with all its faults."""
-    lines = [it.removesuffix(b"\r") for it in work.raw.split(b"\n")]
-    return WorkReader(body.count(b"\n", 0, work.start) + 1, lines, territory).read()
+    return WorkReader(body.count(b"\n", 0, work.start) + 1, work.lines, territory).read()
