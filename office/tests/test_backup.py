@@ -26,6 +26,7 @@ from society_office.errors import OfficeError
 from society_office.health import Looked, look_into_backup
 from society_office.program import Office as Asked
 from society_office.program import free_port
+from test_statements import run
 
 BACKUP, RESTORE = ROOT / "debian/bin/society-backup", ROOT / "debian/bin/society-restore"
 NOBODY = 65_534
@@ -768,7 +769,11 @@ def test_what_a_new_machine_needs_stands_beside_the_copy(copy: pathlib.Path, tmp
     for _ in range(2):
         done = backed_up(copy, tmp_path, program, *words)
         assert (done.returncode, done.stderr) == (0, "")
-    [made] = (tmp_path / "backups").glob("*.db")
+        # (what a search writes beside a copy goes with it)
+        [made] = (tmp_path / "backups").glob("*.db")
+        run("works", made, "song")
+        assert made.with_name(f"{made.name}.works").exists()
+    made.with_name(f"{made.name}.works").unlink()
     assert sorted(it.name for it in (tmp_path / "backups").iterdir()) == [".lock", made.name, f"{made.stem}.tar"]
     assert made.with_suffix(".tar").stat().st_mode & 0o777 == 0o600
     with tarfile.open(made.with_suffix(".tar")) as found:
