@@ -97,6 +97,14 @@ def test_how_much_more_an_office_has_is_told(count: int, more: str) -> None:
     assert str(raised.value) == f"{what}. Take a copy of now: systemctl start society-backup"
 
 
+def test_a_pool_that_is_there_already_is_told_once() -> None:
+    copy, office = of_office()
+    office.pools |= {3, 4}
+    for pool, told_pools in ((3, "pool 3; pool 4"), (4, "pool 4; pool 3")):
+        with pytest.raises(OfficeError, match=f"^the office has what /dev/null has not: {told_pools}. Take a copy of now"):
+            closing_commands.need_copy_of_now(copy, office, Plan(b"{}", {"amount": 5}, pool), True)
+
+
 @pytest.mark.parametrize("status", closing.REFUSED)
 def test_a_refusal_is_one_of_an_office(status: int) -> None:
     _, office = of_office()

@@ -208,6 +208,12 @@ def test_what_is_too_much_is_set_off(program: str, tmp_path: pathlib.Path, apart
     assert "too much" in desk.run("dues", "--account", ANNA) and desk.due() == []
 
 
+def test_that_nothing_is_lacking_is_told(desk: Desk, tmp_path: pathlib.Path) -> None:
+    assert desk.run("dues") == "all that is due was paid, and nothing else\n"
+    said = run_errors(desk, "dues", "--next", tmp_path / "next").splitlines()
+    assert said[1:] == ["nothing is lacking that a further order can pay: nothing was written"] and not (tmp_path / "next").exists()
+
+
 def test_how_an_order_is_sent_is_told(desk: Desk, tmp_path: pathlib.Path) -> None:
     desk.steps(of_a())
     said = run_errors(desk, "dues", "--next", tmp_path / "next").splitlines()

@@ -68,7 +68,9 @@ def test_the_page_of_a_statement(copy: pathlib.Path, key: str) -> None:
     assert pools[-1] == ["All", f"{total:,}"]
     works = {(it[0] if it[1] else "", it[1]): it[3] for it in rows(page, "<h2>By work")}
     assert works == {k[:2]: f"{units:,}" for k, units in sums(key, 3, 4, 5).items()}
-    assert len(rows(page, "<h2>Every credit")) == len(earned_by(key) if key in quarter.NAMES else lines_by(key))
+    every = sorted([str(it[0]), it[1], it[2], f"{it[-1]:,}"] for it in lines_by(key))
+    for listed in (rows(page, "<h2>Every credit"), printed(run("statement", copy, key), "pool")):
+        assert sorted([*it[:3], it[-1]] for it in listed) == every
     if key in quarter.NAMES:
         by_account = {k[0]: f"{units:,}" for k, units in sums(key, 6).items()}
         assert {it[0]: it[2] for it in rows(page, "<h2>By account")} == by_account
@@ -157,6 +159,14 @@ def test_a_rehearsal_as_a_table(copy: pathlib.Path, tmp_path: pathlib.Path, prog
     assert "more accounts" not in run("rehearse", copy, tmp_path / "order.json", "--program", program)
 
 
+def test_every_recording_that_is_unclaimed_as_a_table(copy: pathlib.Path) -> None:
+    said, found = f"\n{run('unclaimed', copy)}", json.loads(run("unclaimed", copy, "--format", "json"))
+    for cause in {it["cause"] for it in found}:
+        wanted = [[str(it["pool"]), it["right"], it["isrc"], f"{it['units']:,}"] for it in found if it["cause"] == cause]
+        # (a long cell goes on in further lines)
+        assert [it[:4] for it in printed(said, f"{cause}: ") if len(it) > 3 and it[0].isdigit()] == wanted
+
+
 def test_what_is_unclaimed_as_a_table(copy: pathlib.Path, monkeypatch: pytest.MonkeyPatch) -> None:
     monkeypatch.setattr(order_output, "MOST_ROWS", 1)
     said, by_cause, found = run("unclaimed", copy), dict[str, list[int]](), json.loads(run("unclaimed", copy, "--format", "json"))
@@ -223,6 +233,12 @@ def test_dues_of_a_pool_and_of_an_account(copy: pathlib.Path, program: str, deci
     for isrc, account, units in reckoning.credits(quarter.OFFICE, 1):
         own[isrc] += units * (account == ACCOUNT)
     assert {it["isrc"]: it["paid"] for it in listed if it["paid"]} == dict(+own) and {it["right"] for it in listed} == {"PR"}
+    differ = [it for it in json.loads(run(*words, "--account", ACCOUNT)) if it["difference"]]
+    said = run(*words[:-2], "--account", ACCOUNT)
+    numbers = [[f"{it[one]:,}" for one in ("due", "paid", "difference")] for it in differ]
+    assert printed(f"\n{said}", "right") == [[it["right"], it["isrc"], *cells] for it, cells in zip(differ, numbers)] != []
+    lacking = [it["difference"] for it in differ if it["difference"] > 0]
+    assert f"\nlacking: {sum(lacking):,} units of {len(lacking)} recordings\n" in said and len(lacking) > 1
     assert "pool 4 is none that people have closed" in run("dues", copy, "--pool", 4, "--program", program, status=1)
     assert "is no account" in run("dues", copy, "--account", "ANNA", "--program", program, status=1)
     assert "--next is over all pools" in run("dues", copy, "--account", ACCOUNT, "--next", copy.parent / "x", status=2)
