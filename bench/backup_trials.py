@@ -624,7 +624,8 @@ def killed_while_it_serves(office):
             seconds = time.monotonic() - begun
             for name in names:
                 (office.tools / name).unlink()
-            shutil.copy(office.tools / "service", office.tools / "systemctl")
+            # (in one step: whoever waits for the end of the restore asks it now)
+            shutil.copy(office.tools / "service", office.tools / "new").replace(office.tools / "systemctl")
             if not (office.tools / "killed").exists():
                 break
             found.append(served_after(office))
