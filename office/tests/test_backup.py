@@ -669,6 +669,23 @@ def test_a_restore_that_is_killed_leaves_a_service_that_runs(
     assert done.returncode in (-signal.SIGKILL, 128 + signal.SIGKILL) and (tools / "state").read_text() == "active\n"
 
 
+def test_a_restore_that_is_killed_while_the_service_stops_has_it_started_then(copy: pathlib.Path, tmp_path: pathlib.Path, program: str) -> None:
+    """A stop that is under way goes on without the script: a start that came before it would leave the office down."""
+    home, tools, env = service(tmp_path, copy)
+    (tools / "systemctl").rename(tools / "at-once")
+    slowly = f'#!/bin/bash\nif [ "$1" = stop ]; then kill -9 $PPID; sleep 1; fi\nexec {tools}/at-once "$@"\n'
+    (tools / "systemctl").write_text(slowly)
+    (tools / "systemctl").chmod(0o755)
+    words = restore_words(copy, home, program, "--front", "3", "--port", free_port())
+    done = subprocess.run(words, env=env, capture_output=True, text=True, timeout=100, check=False)
+    until = time.monotonic() + 20
+    while "start" not in (tools / "asked").read_text().split() and time.monotonic() < until:
+        time.sleep(0.05)
+    assert done.returncode == -signal.SIGKILL
+    assert (tools / "asked").read_text().split() == ["is-active", "stop", "reset-failed", "start"]
+    assert (tools / "state").read_text() == "active\n"
+
+
 def test_nothing_is_restored_under_an_office(copy: pathlib.Path, tmp_path: pathlib.Path, program: str) -> None:
     home = tmp_path / "home"
     home.mkdir()
