@@ -54,7 +54,14 @@ KILLING = """#!/bin/bash
 here=$(dirname "$0")
 count=$(($(cat "$here/count") + 1))
 echo "$count" > "$here/count"
-if [ "$count" = "$(cat "$here/last")" ]; then echo "{0}" > "$here/killed"; kill -9 "$PPID"; exit 1; fi
+if [ "$count" = "$(cat "$here/last")" ]; then
+  echo "{0}" > "$here/killed"
+  # (the script itself, and not a shell of its own in which it waits for an answer)
+  it=$PPID
+  while read -r _ _ _ parent _ < "/proc/$it/stat" && grep -q society-restore "/proc/$parent/cmdline"; do it=$parent; done
+  kill -9 "$it"
+  exit 1
+fi
 exec {1} "$@"
 """
 # A copying that waits until a file is gone.
