@@ -48,8 +48,25 @@ def test_what_is_added_is_read_and_stands_in_the_journal(home: pathlib.Path) -> 
     assert found.journal[0].who == journal.who()
     assert found.journal[0].sums == {"void.txt": journal.sum_of((home / "void.txt").read_bytes())}
     assert found.changed_by_hand == []
-    (home / "void.txt").write_text("RADIO1\n")
+    before = (home / "void.txt").read_bytes()
+    decisions.add(home, decisions.VOID, ["RADIO1/4"], "void RADIO1/4", "a wrong month")
+    assert decisions.read(home).changed_by_hand == []
+    # (what it had once is no longer what it has last)
+    (home / "void.txt").write_bytes(before)
     assert decisions.read(home).changed_by_hand == ["void.txt"]
+
+
+def test_a_line_of_the_journal_has_the_sums_of_what_was_written_for_it(home: pathlib.Path) -> None:
+    with decisions.writing(home) as it:
+        it.add(decisions.VOID, ["RADIO1/3"])
+        assert [it.note("void RADIO1/3", "why").sums.keys(), it.note("looked at", "why").sums] == [{"void.txt"}, {}]
+        assert it.note("by hand", "why", {"pools.txt": "0" * 64}).sums == {"pools.txt": "0" * 64}
+
+
+def test_what_was_left_of_a_write_is_not_in_the_way(home: pathlib.Path) -> None:
+    (home / ".void.txt.new").write_text("RADIO1/")
+    decisions.add(home, decisions.VOID, ["RADIO1/3"], "void RADIO1/3", "why")
+    assert sorted(it.name for it in home.iterdir()) == sorted(decisions.FILES)
 
 
 def test_a_line_that_is_not_ended_is_ended_first(home: pathlib.Path) -> None:
@@ -66,8 +83,10 @@ def test_a_line_that_is_not_ended_is_ended_first(home: pathlib.Path) -> None:
         ("amendments.txt", "# none\n99998 7\n", "amendments.txt, line 2: '99998 7' is no amendment"),
         ("amendments.txt", f"99998 7 {ORDER[:-1]}\n", "amendments.txt, line 1: "),
         ("amendments.txt", "99998 7 {\n", "amendments.txt, line 1: "),
+        ("amendments.txt", "99998 7 {amount:5}\n", "amendments.txt, line 1: "),
         ("amendments.txt", f"99998 7 {ORDER}\n99998 6 {ORDER}\n", "amendments.txt, line 2: "),
         ("journal.txt", "2026-01-06T10:00:00Z\tanna\tvoid\twhy\n", "journal.txt, line 1: it is not what a command writes there"),
+        ("journal.txt", "2026-01-06T10:00:00Z\tanna\tvoid\twhy\tand more\t\n", "journal.txt, line 1: "),
         ("journal.txt", "2026-13-06T10:00:00Z\tanna\tvoid\twhy\t\n", "journal.txt, line 1: "),
         ("journal.txt", "# \n2026-01-06T10:00:00Z\tanna\t\twhy\t\n", "journal.txt, line 2: "),
         ("journal.txt", "2026-01-06T10:00:00Z\tanna\tvoid\twhy\tvoid.txt 12\n", "journal.txt, line 1: "),
@@ -119,9 +138,10 @@ def test_the_folder_is_the_named_one_then_that_of_the_variable_then_the_installe
         decisions.read(decisions.need_folder())
 
 
-def test_a_file_stays_open_to_those_of_before(home: pathlib.Path) -> None:
-    home.chmod(0o2770)
-    (home / "void.txt").chmod(0o660)
+@pytest.mark.parametrize("folder, mode", [(0o2770, 0o660), (0o700, 0o600), (0o755, 0o640)])
+def test_a_file_stays_open_to_those_of_before(home: pathlib.Path, folder: int, mode: int) -> None:
+    home.chmod(folder)
+    (home / "void.txt").chmod(mode)
     old = os.umask(0o077)
     try:
         decisions.add(home, decisions.VOID, ["RADIO1/3"], "void RADIO1/3", "why")
@@ -129,7 +149,7 @@ def test_a_file_stays_open_to_those_of_before(home: pathlib.Path) -> None:
         decisions.begin(home)
     finally:
         os.umask(old)
-    assert [stat.S_IMODE((home / it).stat().st_mode) for it in ("void.txt", "pools.txt")] == [0o660, 0o660]
+    assert [stat.S_IMODE((home / it).stat().st_mode) for it in ("void.txt", "pools.txt")] == [mode, mode]
 
 
 def test_one_that_writes_keeps_others_out(home: pathlib.Path, monkeypatch: pytest.MonkeyPatch) -> None:
@@ -208,6 +228,15 @@ def test_what_was_decided_is_shown(home: pathlib.Path) -> None:
     assert shown[0].endswith(": 2 lines of void returns, 0 amendments, 0 names of pools") and len(shown) == 2
     assert shown[1].endswith(f"Z  {journal.who()}  void RADIO1/3-4 TV1: a wrong month")
     assert "names no returns" in run("void", "radio1", "--why", "x", "--decisions", home, status=1)
+
+
+def test_the_last_lines_of_the_journal_are_shown(home: pathlib.Path) -> None:
+    for name in ("RADIO1/3", "RADIO1/4", "RADIO1/5"):
+        run("void", name, "--why", "month # 3", "--decisions", home)
+    assert (home / "void.txt").read_text().endswith("RADIO1/4  # month  3\nRADIO1/5  # month  3\n")
+    shown = run("decisions", home, "--last", 2).splitlines()[1:]
+    assert [it.partition("void ")[2] for it in shown] == ["RADIO1/4: month # 3", "RADIO1/5: month # 3"]
+    assert len(run("decisions", home, "--last", 0).splitlines()) == 1
 
 
 def test_what_was_changed_by_hand_gets_a_line(home: pathlib.Path) -> None:
