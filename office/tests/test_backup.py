@@ -669,7 +669,7 @@ def test_a_restore_that_is_killed_leaves_a_service_that_runs(
     assert done.returncode in (-signal.SIGKILL, 128 + signal.SIGKILL) and (tools / "state").read_text() == "active\n"
 
 
-def test_a_restore_that_is_killed_while_the_service_stops_has_it_started_then(copy: pathlib.Path, tmp_path: pathlib.Path, program: str) -> None:
+def test_a_restore_that_is_killed_while_the_service_stops(copy: pathlib.Path, tmp_path: pathlib.Path, program: str) -> None:
     """A stop that is under way goes on without the script: a start that came before it would leave the office down."""
     home, tools, env = service(tmp_path, copy)
     (tools / "systemctl").rename(tools / "at-once")
