@@ -7,7 +7,7 @@ from collections.abc import Callable, Iterator, Mapping, Sequence
 from society_office.copy import Copy
 from society_office.errors import OfficeError
 from society_office.numbering import as_json, as_sent, rank_of
-from society_office.return_names import LAST_NUMBER, Entry, Return, are_listed, names_text, unmatched
+from society_office.return_names import Entry, Return, are_listed, names_text, unmatched
 from society_office.own_returns import is_numbered_down
 from society_office.stored_returns import Stored, far_ones, same_plays, stored_returns
 
@@ -147,7 +147,7 @@ def wrong_entry(one: Entry, stored: Mapping[Return, Stored], why: Why) -> str:
         return f"{one.told}: no such return is stored"
     if not one.ranges:
         return f"{one.told}: none of its returns can be named: {reasons(barred, why)}" if len(barred) == len(found) else ""
-    numbers = {number for first, last in one.ranges for number in range(first, min(last, LAST_NUMBER) + 1)}
+    numbers = {number for first, last in one.ranges for number in range(first, last + 1)}
     lacking = numbers - {it.number for it in found}
     told = [f"{names_text((one.reporter, it) for it in lacking)}: not stored"] if lacking else []
     told += [reasons(barred, why)] if barred else []
