@@ -11,7 +11,7 @@ import struct
 from collections.abc import Iterator
 from typing import Any
 
-from society_office import book_log
+from society_office import book_log, page_sums
 from society_office.errors import OfficeError
 from society_office.numbering import Line
 from society_office.throw_away import room
@@ -21,6 +21,8 @@ DERIVED = {"fronts", "verdicts", "versions", "recordings", "credits", "balances"
 LATER = {"segment_ends", "mechanical_pools"}
 # The tables of each layout.
 TABLES = {1: BOOK, 2: BOOK | DERIVED, 3: BOOK | DERIVED | LATER}
+# What pools leave in a file.
+OF_POOLS = {"pools", "pool_cuts", "pool_returns", "mechanical_pools", "credits", "balances"}
 WAL_HEADER, FRAME_HEADER = 32, 24
 # Where SQLite locks a file: a byte for a writer that waits, one for a writer, and 510 for readers.
 LOCKS = 0x4000_0000
@@ -130,6 +132,13 @@ class Copy:
     def save(self, target: pathlib.Path) -> None:
         """Writes what the copy holds into a file of its own, each page as it is: sqlite3's own backup writes no sum of the first one."""
         book_log.join(self.file, self.file.with_name(self.file.name + "-wal"), target)
+
+    def save_before_pools(self, target: pathlib.Path) -> None:
+        """Writes what the copy holds of files and returns into a file of its own, without page sums, as if no pool were closed yet."""
+        with room() as folder:
+            whole = folder / "whole.db"
+            self.save(whole)
+            page_sums.copy_tables(whole, target, OF_POOLS)
 
     def body(self, sender: str, number: int) -> bytes:
         """A file's bytes."""

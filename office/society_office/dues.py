@@ -136,7 +136,8 @@ class Dues:
         for isrc, (way, rows) in late.items():
             for it in rows:
                 differs[way.right, isrc, it.account] += it.part
-                changing[way.right, isrc, it.account] += it.part if way.may_change else 0
+                if way.may_change:
+                    changing[way.right, isrc, it.account] += it.part
             if pool not in self.changed:
                 differs[way.right, isrc, UNCLAIMED] -= self.open[pool][isrc]
         self.by_pool[pool] = Units({key: units for key, units in differs.items() if units})
@@ -228,7 +229,8 @@ class Dues:
 
 
 def need_within(dues: Dues, made: MakeUp, program: str, apart: bool) -> None:
-    """Has the program close a make-up over a throw-away copy; an OfficeError where its credits pass what is lacking."""
+    """Has the program close a make-up over the files and returns of a throw-away copy; an OfficeError where its credits pass what is
+    lacking."""
     credits = closed(program, dues.copy, made.number, made.order, made.returned, made.body)
     if passed := dues.beyond(made, credits, apart):
         raise OfficeError(f"nothing was written, since the program would pay beyond what is due: {'; '.join(passed)}")

@@ -8,7 +8,7 @@ import pathlib
 import sqlite3
 import struct
 import sys
-from collections.abc import Iterator
+from collections.abc import Container, Iterator
 
 from society_office import book_log
 from society_office.errors import OfficeError
@@ -100,14 +100,17 @@ def begin(database: pathlib.Path, target: pathlib.Path) -> None:
         file.write(struct.pack(">H", size - SUM))
 
 
-def copy_tables(database: pathlib.Path, target: pathlib.Path) -> None:
-    """Makes the tables of a file in another one, which has none, in the same order."""
+def copy_tables(database: pathlib.Path, target: pathlib.Path, empty: Container[str] = ()) -> None:
+    """Makes the tables of a file in another one, which has none, in the same order, and some of them without their rows."""
     with contextlib.closing(sqlite3.connect(target.resolve().as_uri(), uri=True, isolation_level=None)) as made:
         made.executescript("PRAGMA journal_mode = OFF; PRAGMA synchronous = OFF")
         made.execute("ATTACH ? AS old", (alone(database),))
         made.execute("BEGIN")
         for table, text in made.execute("SELECT name, sql FROM old.sqlite_schema WHERE sql IS NOT NULL ORDER BY rowid").fetchall():
-            copy_table(made, table, text)
+            if table in empty:
+                made.execute(text)
+            else:
+                copy_table(made, table, text)
         made.execute("COMMIT")
 
 

@@ -246,12 +246,14 @@ def trial_office(program: str, words: list[str], database: pathlib.Path | None =
 
 
 @contextlib.contextmanager
-def trial_of(program: str, copy: Copy) -> Iterator[Trial]:
-    """A throw-away office over what a copy holds, whatever stands beside it."""
+def trial_of(program: str, copy: Copy, before_pools: bool = False) -> Iterator[Trial]:
+    """A throw-away office over what a copy holds, whatever stands beside it; with `before_pools` over its files and returns alone, as if
+    no pool were closed yet: what very many credits take of time and memory when it starts is not asked for again then."""
     with room() as folder:
-        whole = folder / "whole.db"
-        copy.save(whole)
-        with trial_office(program, copy.office_words, whole) as trial:
+        begun = folder / "begun.db"
+        save = copy.save_before_pools if before_pools else copy.save
+        save(begun)
+        with trial_office(program, copy.office_words, begun) as trial:
             yield trial
 
 

@@ -10,10 +10,13 @@ import pytest
 import quarter
 import reckoning
 from conftest import ROOT, running, served
-from society_office.copy import open_copy
+from society_office.copy import OF_POOLS, TABLES, Copy, open_copy
+from society_office.credit import closed
 from society_office.errors import OfficeError
+from society_office.orders import Order
+from society_office.own_returns import ROWLESS
 from society_office.page_sums import changed
-from society_office.program import Office, free_port
+from society_office.program import Office, audited, free_port, open_whole
 from society_office.statements import Statements
 from test_statements import run
 
@@ -52,6 +55,19 @@ def test_a_copy_is_never_written_to(copy: pathlib.Path) -> None:
     assert {it.name for it in copy.parent.iterdir()} == {"copy.db", "site"}
 
 
+def test_files_and_returns_are_saved_without_pools(copy: pathlib.Path, program: str, tmp_path: pathlib.Path) -> None:
+    def counts(opened: Copy) -> dict[str, int]:
+        tables = sorted(TABLES[3] - OF_POOLS), sorted(OF_POOLS)
+        return {it: sum(opened.row(f"SELECT count(*) FROM {one}")[0] for one in listed) for it, listed in zip(("kept", "of pools"), tables)}
+
+    with open_copy(copy) as opened:
+        opened.save_before_pools(tmp_path / "before.db")
+        assert audited(opened.save_before_pools, opened.office_words, program) == (0, "sound")
+        kept = counts(opened)["kept"]
+    with open_copy(tmp_path / "before.db") as before:
+        assert counts(before) == {"kept": kept, "of pools": 0}
+
+
 def test_older_layouts(copy: pathlib.Path, monkeypatch: pytest.MonkeyPatch) -> None:
     with changed(copy) as database:
         database.executescript("DROP TABLE mechanical_pools; DROP TABLE segment_ends; UPDATE office SET layout = 2")
@@ -83,6 +99,10 @@ def test_an_older_layout_is_taken_over(tmp_path: pathlib.Path, program: str, lay
     before = path.read_bytes()
     assert "50,000 units in all, which is the balance" in run("statement", path, "I00000000295")
     assert "50,000 units in all, which is what the statement has" in run("explain", path, "I00000000295", "--pool", 7)
+    order = Order("PR", 8, [("PB000000012", 1)], [("DUE00000001", 99_999)])
+    with open_whole(path) as opened:
+        credits = closed(program, opened, 99_999, order, order.returns[0], f"{ROWLESS}ATABC2600001,8,1\n")
+    assert sum(credits.values()) == 8
     assert path.read_bytes() == before
 
 

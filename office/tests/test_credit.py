@@ -1,5 +1,6 @@
 """`society credit` beside a reckoning by hand, and beside what pools were credited."""
 
+import collections
 import io
 import json
 import pathlib
@@ -9,8 +10,9 @@ import credit_by_hand
 import pytest
 import quarter
 import random_office
+import reckoning
 from conftest import OFFICE, made
-from office_value import File, Office, order_body
+from office_value import File, Office, Pool, Return, order_body
 from society_office import credit
 from society_office.copy import open_copy
 from society_office.credit import Asked, asking
@@ -64,6 +66,16 @@ def test_what_a_pool_would_credit_is_the_sum_of_an_accounts_lines(program: str, 
         order = Order("PR", 1_001, [(quarter.ALPHA, 1)], [returned])
         found = credit.closed(program, opened, 7, order, returned, f"{ROWLESS}{isrc},1,1\n")
     assert found == {(isrc, anna): 1_001, (isrc, "UNCLAIMED"): 0}
+
+
+def test_what_a_pool_would_credit_is_what_it_credits(copy: pathlib.Path, program: str) -> None:
+    plays = Return("RADIO8", 1, [(it, 3, 77) for it in ("ATABC2600001", "ATABC2600010", "FREPS2600001", "FREPS2600002", "ZZZZZ2600001")])
+    pool, wanted = Pool(6, "PR", 98_765, quarter.LAST_CUT, [("RADIO8", 1)]), collections.Counter[tuple[str, str]]()
+    for isrc, account, units in reckoning.credits(quarter.OFFICE.with_steps(plays, pool), 6):
+        wanted[isrc, account] += units
+    order, body = Order("PR", pool.amount, sorted(pool.cut.items()), pool.returns), quarter.OFFICE.request(plays)[1].decode()
+    with open_copy(copy) as opened:
+        assert credit.closed(program, opened, 6, order, pool.returns[0], body) == wanted
 
 
 def test_more_recordings_than_a_line_takes(copy: pathlib.Path, program: str, monkeypatch: pytest.MonkeyPatch) -> None:
