@@ -466,16 +466,17 @@ CASES = {
         ('        8444 "";\n', ""),
         ('Authorization "";\n            proxy_ignore', "X-Other 1; proxy_ignore"),
     ],
-    nothing_to_others: [("            if (!-f /run/society-standby/$standby) {", "            if ($is_mirrored = 0) {")],
+    # (proxy.py looks for the folder's name)
+    nothing_to_others: [("if (!-f /run/society-standby/$standby) {", "# /run/society-standby\n            if ($is_mirrored = 0) {")],
     two_contents: [],
     a_year: [],
 }
 
 
-def try_planted(program, folder):
-    """Each case fails where one of its lines is another."""
+def try_planted(program, folder, word):
+    """Each case with a word in its name fails where one of its lines is another."""
     for case, changes in CASES.items():
-        for number, change in enumerate(changes):
+        for number, change in enumerate(changes if word in case.__name__ else []):
             home = folder / f"{case.__name__}-{number}"
             home.mkdir()
             machines = Machines(program, home, [change])
@@ -497,7 +498,7 @@ def main():
         folder = pathlib.Path(folder)
         folder.chmod(0o755)
         if options.planted:
-            try_planted(options.program, folder)
+            try_planted(options.program, folder, options.case)
         else:
             machines = Machines(options.program, folder)
             try:
