@@ -27,12 +27,13 @@ class Answering:
     pools: set[int]
     balances: dict[str, int]
     address: str = "http://127.0.0.1:1"
+    held: dict[str, list[int]] = dataclasses.field(default_factory=dict)
 
     def ask(self, it: Request) -> Answer:
         """The answer to a request."""
         kind, _, rest = it.path.partition("/")
         if kind == "senders":
-            return answer(200, {"front": self.fronts.get(rest, 0), "held": []})
+            return answer(200, {"front": self.fronts.get(rest, 0), "held": self.held.get(rest, [])})
         if kind == "returns":
             return answer(409, {"error": "reused"}) if rest in self.returns else answer(422, {"error": "csv", "fault": 1, "row": 1})
         if kind == "pools":
@@ -67,6 +68,19 @@ def test_pools_behind_those_of_people_are_asked_for() -> None:
     # (of no units, so that no balance tells of them)
     office.pools |= {3, 5}
     assert told(copy, office) == ["pool 3", "pool 5"]
+
+
+def test_fronts_and_what_is_held_are_asked_for() -> None:
+    copy, office = of_office()
+    # (what is held below the front of the copy is passed over there)
+    office.held[HOUSE] = [1, 4, 3]
+    files = [f"file {it} of {HOUSE} (its front is 1 there, and 1 in the copy)" for it in (3, 4)]
+    assert told(copy, office) == files and list(lost(copy, office)) == []
+    office.fronts[HOUSE], office.held = 2, {}
+    assert told(copy, office) == [f"file 2 of {HOUSE} (its front is 2 there, and 1 in the copy)"]
+    office.fronts[HOUSE] = 0
+    assert told(copy, office) == []
+    assert [it.words for it in lost(copy, office)] == [f"files of {HOUSE} (its front is 0 there, and 1 in the copy)"]
 
 
 def test_the_last_return_of_each_reporter_is_asked_for() -> None:
@@ -111,3 +125,26 @@ def test_a_refusal_is_one_of_an_office(status: int) -> None:
     with pytest.raises(OfficeError, match=f"^http://127.0.0.1:1 answers {status}, as no office does: whether it was closed is not known"):
         closing.refused(office, Answer(status, b"<html>a page</html>"), "order")
     assert closing.refused(office, answer(status, {"error": "reused"}), "order")
+
+
+@dataclasses.dataclass
+class Alike:
+    """An office that gives one answer to all."""
+
+    given: Answer
+    address: str = "http://127.0.0.1:1"
+
+    def ask(self, _: Request) -> Answer:
+        """It."""
+        return self.given
+
+
+HEAD = b"isrc,account,units\n"
+OTHER_HEAD, TOO_FEW, NO_NUMBER = b"account,isrc,units\nX,A,5\n", HEAD + b"A,X\n", HEAD + b"A,X,five\n"
+
+
+@pytest.mark.parametrize("status, body", [(404, HEAD), *((200, it) for it in (b"", OTHER_HEAD, TOO_FEW, NO_NUMBER, b"\xff"))])
+def test_what_is_read_back_is_what_a_pool_has_credited(status: int, body: bytes) -> None:
+    assert closing.read_back(Alike(Answer(200, HEAD + b"A,X,5\nB,Y,0\n")), PLAN) == [("A", "X", 5), ("B", "Y", 0)]
+    with pytest.raises(OfficeError, match=f"^http://127.0.0.1:1 is no office: it answers {status} to pools/6, which is to be closed"):
+        closing.read_back(Alike(Answer(status, body)), PLAN)

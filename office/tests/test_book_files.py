@@ -130,7 +130,9 @@ def test_memory_of_a_start(served: Served, monkeypatch: pytest.MonkeyPatch, tmp_
         assert findings(words)["memory"][0] == state
     shutil.copyfile(database, tmp_path / "one.db")
     with_credits = health.memory_needed(health.Looked("", database=database, backups=tmp_path))
-    assert with_credits > needed + 150
+    with open_copy(tmp_path / "one.db") as copy:
+        credits_there, played = copy.row("SELECT count(*), count(DISTINCT isrc) FROM credits")
+    assert credits_there and played and with_credits == needed + 150 * credits_there + 400 * played
 
 
 def test_memory_by_the_unit(monkeypatch: pytest.MonkeyPatch, tmp_path: pathlib.Path) -> None:

@@ -16,6 +16,7 @@ from society_office.cli import main
 from society_office.copy import open_copy
 from society_office.errors import OfficeError
 from society_office.orders import free_pool
+from society_office.page_sums import changed
 from society_office.program import free_port
 from test_statements import run
 
@@ -208,6 +209,19 @@ def test_a_pool_that_credits_otherwise_is_told(
         said = called(sure(copy, other, order, program), status=1)
     assert "pool 6 is closed, but rehearsed were " in said and ", and the office has credited 12,345 units of " in said
     assert "(not as rehearsed: " in decisions.read(decided).journal[-1].why
+    # (what is closed is read back each time)
+    with odd(address, "other") as other:
+        assert "pool 6 is closed, but rehearsed were " in called(sure(copy, other, order, program), status=1)
+    assert f"closed pool 6: {AMOUNT:,} units of the PR, just as rehearsed\n" in called(sure(copy, address, order, program))
+
+
+def test_an_order_that_the_program_refuses_is_not_begun(
+    copy: pathlib.Path, address: str, program: str, tmp_path: pathlib.Path, decided: pathlib.Path
+) -> None:
+    before = pools_at(address)
+    (tmp_path / "wrong.json").write_text(json.dumps({"amount": AMOUNT, "cut": [[quarter.ALPHA, 1]], "returns": [["RADIO1", 999]]}))
+    assert "the order is refused, status 409: " in called(sure(copy, address, tmp_path / "wrong.json", program), status=1)
+    assert pools_at(address) == before and told(decided) == []
 
 
 def test_what_was_begun_is_taken_back(copy: pathlib.Path, address: str, order: pathlib.Path, program: str, decided: pathlib.Path) -> None:
@@ -298,7 +312,8 @@ def test_what_was_begun_goes_to_no_other_book(
     for society, what in (("901", "it is the office of another society, or none"), ("900", f"{copy} has what the office has not: ")):
         office = ["--society", society, "--territory", "40", "--name", "EXAMPLE SOCIETY"]
         with running(program, tmp_path / f"{society}.db", port, "--connections", "1000", office=office):
-            assert what in called(words(copy, f"http://127.0.0.1:{port}", order, program), status=1)
+            for given in ([], ["--give-up", "--why", "x"][: 3 * (society == "901")]):
+                assert what in called(words(copy, f"http://127.0.0.1:{port}", order, program, *given), status=1)
     assert [it.partition(":")[0] for it in told(decided)] == ["closing pool 6"]
 
 
@@ -339,6 +354,36 @@ def test_another_order_under_its_number(
     sent(address, "/pools/6", b'{"amount":5,"cut":[],"returns":[]}')
     assert "pool 6 is not closed: another order stands under this number" in called(words(copy, address, order, program), status=1)
     assert [it.partition(":")[0] for it in told(decided)] == ["closing pool 6", "gave up pool 6"]
+
+
+def test_who_has_asked_for_an_order_is_who_has_asked_last(decided: pathlib.Path, monkeypatch: pytest.MonkeyPatch) -> None:
+    it = closing.Plan(b'{"amount":5,"cut":[],"returns":[]}', {"amount": 5}, 6)
+    closing.begin(decisions.read(decided), it, "why")
+    # (a line that begins a pool has its sum too)
+    assert closing.asked_by(decisions.read(decided).journal, it.body) is None
+    for name, file in (("anna", "an order, the second.json"), ("bert", "order.json")):
+        monkeypatch.setattr(journal, "who", lambda name=name: name)
+        closing.ask_for(decisions.read(decided), it, pathlib.Path(file), "why")
+        found = closing.asked_by(decisions.read(decided).journal, it.body)
+        assert found and (found.who, list(found.sums.values())) == (name, [journal.sum_of(it.body)])
+    monkeypatch.setattr(closing, "who", lambda: "anna")
+    assert closing.need_second(decisions.read(decided).journal, it.body).who == "bert"
+
+
+def test_an_order_that_was_given_up_gets_a_number_anew(copy: pathlib.Path, order: pathlib.Path, decided: pathlib.Path) -> None:
+    """Its number may be another order's since."""
+
+    def planned() -> closing.Plan:
+        with open_copy(copy) as opened:
+            return closing.plan(decisions.read(decided), opened, order.read_bytes())
+
+    first = planned()
+    closing.begin(decisions.read(decided), first, "why")
+    assert (first.pool, first.begun, planned().pool, planned().begun) == (6, None, 6, decisions.read(decided).journal[-1])
+    closing.end(decided, "gave up", first, "a typing error")
+    with changed(copy) as database:
+        database.execute("INSERT INTO pools VALUES (6, 0)")
+    assert (planned().pool, planned().begun, planned().ended) == (7, None, None)
 
 
 def test_two_calls_that_end_it_write_one_line(decided: pathlib.Path) -> None:
