@@ -224,6 +224,14 @@ def test_an_order_that_the_program_refuses_is_not_begun(
     assert pools_at(address) == before and told(decided) == []
 
 
+def test_a_pool_that_was_closed_before_is_read_back_again(copy: pathlib.Path, address: str, order: pathlib.Path, program: str) -> None:
+    called(sure(copy, address, order, program))
+    with odd(address, "other") as other:
+        said = called(sure(copy, other, order, program), status=1)
+    assert "pool 6 is closed by this very order since " in said and "just as rehearsed" not in said
+    assert "pool 6 is closed, but rehearsed were " in said and ", and the office has credited 12,345 units of " in said
+
+
 def test_what_was_begun_is_taken_back(copy: pathlib.Path, address: str, order: pathlib.Path, program: str, decided: pathlib.Path) -> None:
     with odd(address, "reset") as other:
         called(sure(copy, other, order, program), status=1)

@@ -3,6 +3,7 @@
 import codecs
 import json
 import pathlib
+import re
 
 import pytest
 import quarter
@@ -183,8 +184,10 @@ def test_a_repeat_is_no_new_pool(office: pathlib.Path, program: str) -> None:
     closed = quarter.POOLS[0]
     (office.parent / "order.json").write_bytes(order_body(closed))
     said = run("rehearse", office, office.parent / "order.json", "--pool", 1, "--program", program)
-    assert "pool 1 is closed already by this very order, with 1,000,003 units of the PR" in said and "would be closed" not in said
-    assert "the same plays" not in said and "nothing would change" in said
+    accounts = len(reckoning.sums(reckoning.credits(quarter.OFFICE, 1)))
+    paid = f"with 1,000,003 units of the PR, credited to {accounts} accounts"
+    assert said.splitlines()[0] == f"pool 1 is closed already by this very order, {paid}: nothing would change"
+    assert "the same plays" not in said and "would be closed" not in said
     (office.parent / "order.json").write_bytes(order_body(closed._replace(amount=5)))
     words = ["rehearse", office, office.parent / "order.json", "--pool", 1, "--program", program]
     assert "another order stands" in run(*words, status=1, out=True)
@@ -211,7 +214,9 @@ def test_its_forms(office: pathlib.Path, program: str) -> None:
     assert {it["account"]: int(it["units"]) for it in rows} == reckoning.sums(reckoning.credits(then, 6)) and rows[0]["pool"] == "6"
     assert rows[0]["right"] == "PR" and {it["account"]: it["name"] for it in rows}["I00000000295"] == "ANNA WRITER"
     said = run(*words)
-    assert "RADIO4/1-2" in said and "2,100" in said and "pool 6 would be closed with 1,000 units of the PR" in said
+    accounts = len({it["account"] for it in rows})
+    assert said.splitlines()[0] == f"pool 6 would be closed with 1,000 units of the PR, credited to {accounts} accounts"
+    assert re.search(r"^RADIO4 +RADIO4/1-2 +2 +2,100 +84\.0 %$", said, re.MULTILINE)
     data = json.loads(run(*words, "--format", "json"))
     assert [(it["reporter"], it["number"], it["rows"], it["points"]) for it in data["returns"]] == [
         ("RADIO3", 1, 2, 400),
