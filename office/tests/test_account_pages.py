@@ -113,7 +113,8 @@ def test_whose_page_it_is(settled: pathlib.Path) -> None:  # noqa: F811
     assert "<address>Anna Writer<br>Road 2<br>10115 Berlin DE</address>" in page and page.count("Alpha") == 0
     (place / "payments.txt").write_text(f"iban {OTHER}\n")
     run("members", "note", "--why", "x")
-    assert "<p>EXAMPLE SOCIETY</p>\n    <h1>Statement M2/" in page_of(settled, "M2", "--to", LAST)
+    page = page_of(settled, "M2", "--to", LAST)
+    assert "<p>EXAMPLE SOCIETY</p>\n    <h1>Statement M2/" in page and f"<p>2026-03-31 to {LAST}; made on " in page
 
 
 def test_what_is_one_word_is_not_broken(settled: pathlib.Path) -> None:  # noqa: F811
@@ -124,9 +125,12 @@ def test_what_is_one_word_is_not_broken(settled: pathlib.Path) -> None:  # noqa:
 
 
 def test_all_totals(settled: pathlib.Path, tmp_path: pathlib.Path) -> None:  # noqa: F811
+    place = home.read(None).folder
+    (place / "members.csv").write_text("\n".join([HEADER, ROWS[0].replace("Alpha", "=Alpha"), *ROWS[1:]]) + "\n")
+    run("members", "note", "--why", "x")
     run("members", "statement", settled, "--all", "--into", tmp_path / "all", "--from", "2026-04-01", "--to", LAST)
     found = {it["member"]: it for it in rows_of((tmp_path / "all/totals.csv").read_text())}
-    for key, name in {"M1": "Alpha Music", "M2": "Anna Writer", "M3": "Boris Composer", "M4": "Beta Verlag"}.items():
+    for key, name in {"M1": "'=Alpha Music", "M2": "Anna Writer", "M3": "Boris Composer", "M4": "Beta Verlag"}.items():
         listed = rows(settled, key, "--from", "2026-04-01", "--to", LAST)
         sums = Counter[str]()
         for it in listed:

@@ -158,6 +158,13 @@ def test_an_account_has_one_member_from_a_day_on() -> None:
     assert faults == [] and {it.key: it.cells for it in again.by_key.values()} == {it.key: it.cells for it in found.by_key.values()}
 
 
+def test_small_and_capital_letters_are_those_of_each_column() -> None:
+    row = ANNA.replace(",AT,de,", ",at,DE,").replace("domestic", "DOMESTIC")
+    row = row.replace("BKAUATWW", "bkau atww").replace(IBAN, "at61 1904300234573201")
+    found, faults = members.judged(f"{HEADER}\n{row}\n".encode(), "x")
+    assert faults == [] and found.by_key["M1"].cells == ANNA.split(",") and found.taxes == {"M1": "domestic"}
+
+
 def test_members_come_from_a_spreadsheet(place: pathlib.Path, tmp_path: pathlib.Path, decided: pathlib.Path) -> None:
     sheet = tmp_path / "sheet.csv"
     first = "Mitglied;Name;Ort;Land;IBAN;Konten;Telefon\r\n"

@@ -5,6 +5,7 @@ import json
 import pathlib
 
 import pytest
+from answers import rows_of
 from society_office.errors import OfficeError
 from society_office.payments import home, listing, owed, writing_off
 from society_office.payments.owed import Booked, Credit, Entry, Kind
@@ -151,6 +152,55 @@ def test_no_more_is_written_off_than_the_ledger_has() -> None:
     for units, most in ((-21, 50), (-71, 600), (0, 600), (1, 600), (-1, 30), (-1, 0)):
         with pytest.raises(OfficeError, match="units of UNCLAIMED are to be written off"):
             writing_off.need_within(units, most, found)
+
+
+def test_the_ledger_of_one_member(copy: pathlib.Path, place: pathlib.Path) -> None:
+    other = CREDITED._replace(member="M2", units=5, words="PR I00000000295")
+    _, found = made(BEGUN, CREDITED, other)
+    assert listing.as_journal(found, "M2") == (
+        "; 900 40 EXAMPLE SOCIETY, units\n\n2026-04-01 (3) credited pool 3 of 2026-03-31 PR I00000000295\n"
+        "    Members:M2    5  = 5\n    Pools:3:PR    -5\n"
+    )
+    run("pay", "book", copy, "--why", "x")
+    sums = home.read(None).ledger.owed
+    told = run("ledger", "--member", "M4").splitlines()
+    assert [it.split() for it in told[2:]] == [
+        ["M4", "602,787", "0", "0", "0", "0", "602,787"],
+        [f"{sum(sums.values()) - sums['UNCLAIMED']:,}", "units", "are", "owed", "to", "members"],
+    ]
+    assert "the ledger has no line of M9" in run("ledger", "--member", "M9", status=1)
+
+
+def test_a_batch_is_of_its_day_whenever_the_bank_pays(copy: pathlib.Path, place: pathlib.Path, tmp_path: pathlib.Path) -> None:
+    today = datetime.datetime.now(datetime.UTC).date()
+    paid(copy, tmp_path / "out", "--day", "2099-04-07", "--member", "M1")
+    paid(copy, tmp_path / "out", "--day", today)
+    days = {it.day for it in home.read(None).ledger.batches.values()}
+    days |= {it.entry.day for it in home.read(None).ledger.lines if it.entry.kind == Kind.ORDERED}
+    assert days <= {today, today + datetime.timedelta(1)}
+    assert f"<Dt>{today}</Dt>" in (tmp_path / "out/payment-2.xml").read_text()
+
+
+def test_the_journal_tells_what_was_booked_to_members(copy: pathlib.Path, place: pathlib.Path, decided: pathlib.Path) -> None:
+    run("pay", "book", copy, "--why", "x")
+    sums = home.read(None).ledger.owed
+    line = (decided / "journal.txt").read_text().splitlines()[-1].split("\t")
+    assert line[2:4] == [f"pay book: {sum(sums.values()) - sums['UNCLAIMED']:,} units", "x"] and sums["UNCLAIMED"] > 0
+    assert "there is no member UNCLAIMED" in run("members", "erase", "UNCLAIMED", "--why", "x", status=1)
+
+
+def test_what_was_paid_and_came_back_later(copy: pathlib.Path, place: pathlib.Path, tmp_path: pathlib.Path) -> None:
+    paid(copy, tmp_path / "out", "--member", "M3")
+    run("pay", "confirm", "--batch", 1, "--day", "2026-12-02", "--why", "x")
+    units = home.read(None).ledger.batches[1].orders["M3"]
+    (tmp_path / "list").write_text(f"reference,amount,day\n900-PAY-1-M3,{units / 100:.2f},2026-12-09\n")
+    run("pay", "returned", tmp_path / "list", "--why", "x")
+    rows = rows_of(run("members", "statement", copy, "M3", "--format", "csv", "--to", "2099-01-01"))
+    told = [(it["what"], it["words"], int(it["units"])) for it in rows if it["batch"]]
+    assert told == [("paid", "paid on 2026-12-02", -units), ("sent back", "sent back by the bank", units)]
+    table = run("members", "statement", copy, "M3", "--to", "2099-01-01").splitlines()
+    assert ["credited", "1", "PR", "'=SECOND", "<SONG>", "31,243", "312.43"] in [it.split() for it in table]
+    assert table[1].split() == ["what", "pool", "right", "title", "words", "units", "EUR"] and "Boris" not in "".join(table)
 
 
 def test_every_cell_of_the_ledger_as_csv() -> None:

@@ -1,5 +1,6 @@
 """The payment file, field by field, for names and addresses of hostile letters; and what a bank's lists tell."""
 
+import dataclasses
 import datetime
 import pathlib
 import re
@@ -123,6 +124,14 @@ def test_who_pays_in_a_payment_file() -> None:
     assert (found.society, found.batch, found.member, others) == (7, 12, "M1", 0)
 
 
+def test_the_address_of_who_is_paid() -> None:
+    person = Payee("M1", 471, "Anna", "Road 1", "1010", "Wien", "AT", IBAN, "", "new")
+    listed = [("PstCd", "1010"), ("TwnNm", "Wien"), ("Ctry", "AT"), ("AdrLine", "Road 1")]
+    for it, wanted in ((person, listed), (dataclasses.replace(person, street="", postcode=""), listed[1:3])):
+        place = fields(pain.payment_file(order([it]))).find(".//PstlAdr")
+        assert place is not None and [(one.tag, one.text) for one in place] == wanted
+
+
 def refused(content: bytes, folder: pathlib.Path) -> str:
     """What xmllint says against a payment file by the schema of the message; nothing of one that is right."""
     if shutil.which("xmllint") is None:
@@ -230,6 +239,12 @@ def test_words_of_the_office_that_are_wrong(tmp_path: pathlib.Path, line: str, s
     with pytest.raises(OfficeError, match="payments.txt") as raised:
         read(file)
     assert said in str(raised.value) and "AT6119" not in str(raised.value)
+
+
+def test_words_of_the_office_as_people_write_them(tmp_path: pathlib.Path) -> None:
+    file = tmp_path / "payments.txt"
+    file.write_text("name  EXAMPLE & CO  # of before\niban at61 1904 3002 3457 3201\nbic bkau atww\nunits 1000\ndecimals 3\nminimum 50\n")
+    assert read(file) == Words("EXAMPLE & CO", "", IBAN, BIC, "EUR", 1_000, 3, 50)
 
 
 @pytest.mark.parametrize("are_returns", [False, True])
