@@ -10,7 +10,7 @@ use Rattle.http_desk.specs.declared.fault.DeskFault.{DeskFault}
 use Rattle.http_text.specs.Part.{Part}
 use Rattle.society_core.specs.Requests.{Reply}
 use Rattle.society_core.specs.State.{Rises, State}
-use Rattle.desk_connections.specs.Doors.{ComeInOrder, Connection, HasAdmitted, Ways}
+use Rattle.desk_connections.specs.Doors.{Admits, ComeInOrder, Connection, HasAdmitted, Ways}
 use Rattle.desk_connections.specs.Faults.{fault_text, most_turns}
 
 -- how many requests a connection brought, by what it came to
@@ -31,14 +31,16 @@ IsGivenUpSo ways state desk new_desk reader new_reader writer new_writer c fault
 
 -- A connection came in by a door and was served from its two ways as they came in: it brought these requests, as many as it tells, they were
 -- read from what its peer sent and answered in turn, each by a call that led the store on, and their answers went to that peer; a fault is
--- told as what it was. The door took the two ways back as the serving left them, so nothing else was read of them or written to them.
+-- told as what it was. The door took the two ways back as the serving left them, so nothing else was read of them or written to them. The peer
+-- was waited for as long as the door has patience.
 pub record ServesOne {D R V S : Type 0} (ways : Ways D R V) (state : S → State) (desk new_desk : S) (door new_door : D) (c : Connection R V) : Type 0 where
   pub open_door : D
   pub reader : Counted R
   pub new_reader : Counted R
   pub writer : Counted V
   pub new_writer : Counted V
-  pub admitted : ways.doors.admits door c.sent c.given open_door
+  pub admitted : Admits ways door c.sent c.given open_door
+  pub waits : ways.doors.patience new_door ≡ ways.doors.patience door
   pub begins : (inner_of reader ≡ c.sent) × (inner_of writer ≡ c.given)
   pub parted : ways.doors.parts open_door (inner_of new_reader) (inner_of new_writer) new_door
   pub served : IfOk c.outcome (IsServedSo ways state desk new_desk reader writer new_writer c)

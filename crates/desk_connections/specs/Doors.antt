@@ -30,6 +30,11 @@ ways_by doors sent given = record { doors = doors; sent = sent; given = given }
 abbrev pub network : {N D R V : Type 0} → Listens N D R V → Doors D R V → Known R → Known V → Network N D R V
 network listens doors sent given = record { listens = listens; ways = ways_by doors sent given }
 
+-- a connection came in by a door, whose peer is waited for by both its ways for as long as the door has patience
+abbrev pub Admits : {D R V : Type 0} → Ways D R V → D → R → V → D → Type 0
+Admits ways door sent given new_door =
+    ways.doors.admits door sent given new_door × (ways.doors.sent_patience sent ≡ ways.doors.patience door) × (ways.doors.given_patience given ≡ ways.doors.patience door)
+
 -- so many came in by a door, and this is whether one could not be accepted there
 abbrev pub HasAdmitted : {D R V : Type 0} → Ways D R V → D → ℕ → Bool → Type 0
 HasAdmitted ways door count failed = (ways.doors.accepted door ≡ count) × (ways.doors.has_failed door ≡ failed)

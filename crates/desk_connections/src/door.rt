@@ -29,6 +29,12 @@ pub trait Door {
     /// For how many seconds it waits for the peer of a connection in all, and as many more for each MiB that comes or goes.
     ghost patience: { Self → ℕ };
 
+    /// For how many seconds, as `patience` says, it is waited for what the peer of a connection sends.
+    ghost sent_patience: { Self.Sent → ℕ };
+
+    /// For how many seconds, as `patience` says, it is waited for the peer of a connection to take what goes to it.
+    ghost given_patience: { Self.Given → ℕ };
+
     /// The number of the connection whose peer sends this.
     ghost sent_by: { Self.Sent → ℕ };
 
@@ -47,13 +53,16 @@ pub trait Door {
         ensures admitted { IfOk result (λ ways. admits self.old ways.0 ways.1 self.new) }
         ensures accepted { OnOk result (accepted self.new ≡ accepted self.old + 1) }
         ensures kept { OnOk result (has_failed self.new ≡ has_failed self.old) }
+        ensures patient { IfOk result (λ ways. (sent_patience ways.0 ≡ patience self.old) × (given_patience ways.1 ≡ patience self.old)) }
+        ensures waits { patience self.new ≡ patience self.old }
         ensures numbered { IfOk result (λ ways. (sent_by ways.0 ≡ accepted self.new) × (given_to ways.1 ≡ accepted self.new)) }
         ensures err { OnErr result ((accepted self.new ≡ accepted self.old) × (has_failed self.new ≡ true)) };
 
     /// Lets a connection go, so that its last answer arrives.
     fn part(&mut self, sent: Self::Sent, given: Self::Given)
         ensures parted { parts self.old sent given self.new }
-        ensures kept { (accepted self.new ≡ accepted self.old) × (has_failed self.new ≡ has_failed self.old) };
+        ensures kept { (accepted self.new ≡ accepted self.old) × (has_failed self.new ≡ has_failed self.old) }
+        ensures waits { patience self.new ≡ patience self.old };
 }
 
 /// What listens at an address, once: it is used up by it, so that all connections come in by one door. Neither it nor its door can be let go

@@ -1,15 +1,15 @@
-//! The machine that the program runs on. What the program does to it, it does by these calls and by its standard streams.
+//! The machine that the program runs on. What the program does to it, it does by these calls, by those of its network, and by its standard
+//! streams.
 ghost use Rattle.std.specs.Prelude.{[], IfErr, false};
-ghost use Rattle.society_host.specs.Refusals.{IsToldOfNone};
+ghost use Rattle.society_host.specs.Refusals.{IsUnread};
 
 use log_reading::ReadAt;
-use society_host::{Look, Machine, ReadFiles, Stream};
+use society_host::{Look, Machine, OpensFiles, ReadFiles};
 use society_opening::OpenFault;
 use sqlite::{Connection, Error, FileFrom, FileStore, Leftover, Start};
 use std::alloc::Global;
 use std::fs::{self, File, Permissions};
-use std::io::{self, ErrorKind, Read, Write};
-use std::net::{Shutdown, SocketAddrV4, TcpListener, TcpStream};
+use std::io::{self, ErrorKind};
 use std::os::unix::fs::{FileExt, PermissionsExt};
 use std::time::{Clock, Duration};
 
@@ -47,14 +47,18 @@ impl<'a> Clock for ThisMachine<'a> {
 }
 
 impl<'a> Machine for ThisMachine<'a> {
-    type Listener = TcpListener;
+    // No clause of the system's ties a path to what a look there tells, or to what is done there.
+    ghost finds = { λ path look. Unit {0} };
 
-    type Stream = Socket;
+    ghost fails_to_look = { λ path kind. Unit {0} };
 
-    // No clause of the system's ties a listener to its address.
-    ghost listens_at = { λ address listener. Unit {0} };
+    ghost is_opened = { λ path. Unit {0} };
 
-    ghost may_fail_at = { λ address. Unit {0} };
+    ghost fails_to_open = { λ path error. Unit {0} };
+
+    ghost is_made = { λ path. Unit {0} };
+
+    ghost is_private = { λ path. Unit {0} };
 
     fn alloc(&self) -> Global {
         self.runtime.alloc()
@@ -72,61 +76,22 @@ impl<'a> Machine for ThisMachine<'a> {
     fn make_private(&self, path: &str) {
         let _ = fs::set_permissions(self.runtime, path, Permissions::from_mode(OWN));
     }
+}
 
+/// What opens one database on this machine.
+#[derive(Drop)]
+pub struct OneDatabase;
+
+impl<'a> OpensFiles<OneDatabase> for ThisMachine<'a> {
     fn open_at<S: Start>(
         &self,
+        opener: OneDatabase,
         path: &str,
         new_has_sums: bool,
         start: S,
     ) -> Result<Connection<FileStore<FileFrom<S>>>, (Error, Option<Leftover<FileFrom<S>>>)> {
+        drop(opener);
         Connection::open_from(self.runtime, path, new_has_sums, start)
-    }
-
-    fn bind(&self, address: SocketAddrV4) -> io::Result<TcpListener> {
-        TcpListener::bind(self.runtime, address)
-    }
-
-    fn accept(&self, listener: &TcpListener) -> io::Result<Socket> {
-        let (stream, _) = listener.accept()?;
-        Ok(Socket { stream })
-    }
-}
-
-/// One handle of a connection.
-#[derive(Drop)]
-pub struct Socket {
-    stream: TcpStream,
-}
-
-impl Read for Socket {
-    fn read(&mut self, buffer: &mut [u8]) -> io::Result<usize> {
-        self.stream.read(buffer)
-    }
-}
-
-impl Write for Socket {
-    fn write(&mut self, bytes: &[u8]) -> io::Result<usize> {
-        self.stream.write(bytes)
-    }
-
-    fn flush(&mut self) -> io::Result<()> {
-        self.stream.flush()
-    }
-}
-
-impl Stream for Socket {
-    fn another(&self) -> io::Result<Socket> {
-        let stream = self.stream.try_clone()?;
-        Ok(Socket { stream })
-    }
-
-    fn bound_waits(&self, wait: Duration) -> io::Result<()> {
-        self.stream.set_read_timeout(Some(wait))?;
-        self.stream.set_write_timeout(Some(wait))
-    }
-
-    fn shut_writing(&self) -> io::Result<()> {
-        self.stream.shutdown(Shutdown::Write)
     }
 }
 
@@ -181,7 +146,7 @@ impl<'a> ReadFiles for ThisMachine<'a> {
 
 /// The file at a path, to be read, if there is one.
 fn open(runtime: &HostRuntime, path: &str) -> Result<Option<ReadFile>, OpenFault>
-    ensures { IfErr result IsToldOfNone }
+    ensures { IfErr result IsUnread }
 {
     match File::open(runtime, path) {
         Ok(file) => Ok(Some(ReadFile { file })),
@@ -191,7 +156,7 @@ fn open(runtime: &HostRuntime, path: &str) -> Result<Option<ReadFile>, OpenFault
 
 /// That there is no file, where the error says so.
 fn absent(kind: ErrorKind) -> Result<Option<ReadFile>, OpenFault>
-    ensures { IfErr result IsToldOfNone }
+    ensures { IfErr result IsUnread }
 {
     match kind {
         ErrorKind::NotFound => Ok(None),

@@ -4,9 +4,11 @@
 #![tactic(auto)]
 
 mod machine;
+mod network;
 mod streams;
 
-use crate::machine::ThisMachine;
+use crate::machine::{OneDatabase, ThisMachine};
+use crate::network::OnePort;
 use crate::streams::{StandardStreams, without_streams};
 use http_desk::Counted;
 use society_commands::{NoWords, exit_status, start, why_no_words};
@@ -45,8 +47,8 @@ fn run(rt: &HostRuntime) -> u8 {
     // A torn write may leave any bytes: nothing more is supposed of the files.
     let machine = ThisMachine::new(rt);
     let (outcome, left, listened) = start(
-        Host::new(machine),
-        HostFiles::new(machine, Wary),
+        Host::new(machine, OnePort::new(rt)),
+        HostFiles::new(machine, OneDatabase, Wary),
         alloc,
         words.as_slice(),
         &mut reader,

@@ -2,13 +2,13 @@
 use Rattle.std.specs.Prelude.{◌≡◌, ◌≢◌, ◌⊎◌, ℕ, ◌<◌, ◌≤◌, IsTrue, List, length, slice_index, take}
 use Rattle.log_reading.specs.Stands.{Stands}
 use Rattle.log_reading.specs.declared.source.ReadAt.{Ghosts as Reads}
-use Rattle.society_host.specs.Refusals.{file_header}
+use Rattle.society_host.specs.Refusals.{IsUnread, file_header}
 use Rattle.society_host.specs.declared.reading.ReadFiles.{Ghosts}
 use Rattle.society_opening.specs.declared.open_fault.OpenFault.{OpenFault}
 use Rattle.society_opening.specs.declared.open_fault.OpenFault.TheVariants as fault
 
 -- a file is a database whose first page has no table (SQLite's file format, 1.3 and 1.6), and has no page sums: no office begins so (profile)
-pub record IsBare (db : List ℕ) : Type 0 where
+pub record HasNoTable (db : List ℕ) : Type 0 where
   pub long : 105 ≤ length db
   pub header : take 16 db ≡ file_header
   pub no_sums : slice_index db 20 ≢ 8
@@ -26,12 +26,20 @@ abbrev pub IsExamined : {M F : Type 0} → Ghosts M F → Reads F → List ℕ �
 IsExamined {F = F} g reads path =
     g.lacks_file path
     ⊎ ((db : F) × g.is_file path db
-    × ((g.lacks_log path × (IsTrue (reads.is_known db) → ¬ IsBare (reads.bytes db)))
+    × ((g.lacks_log path × (IsTrue (reads.is_known db) → ¬ HasNoTable (reads.bytes db)))
     ⊎ ((log : F) × g.is_log path log
-    × (AreKnown reads log db → Stands (reads.bytes log) (reads.bytes db) × (length (reads.bytes log) < 56 → ¬ IsBare (reads.bytes db))))))
+    × (AreKnown reads log db → Stands (reads.bytes log) (reads.bytes db) × (length (reads.bytes log) < 56 → ¬ HasNoTable (reads.bytes db))))))
 
 -- what is told of a log that was read: damage only where no stop leaves it so, and a fault of the store only where it could not be read
-pub record TellsOfLog (Known Holds : Type 0) (told : OpenFault) : Type 0 where
+pub record TellsStanding (Known Holds : Type 0) (told : OpenFault) : Type 0 where
   pub log : told ≡ fault.Log → Known → ¬ Holds
   pub store : told ≡ fault.Store → ¬ Known
   pub kind : (told ≡ fault.Memory) ⊎ ((told ≡ fault.Store) ⊎ (told ≡ fault.Log))
+
+-- Why a database whose file and log were read is not opened: a log that no stop of the office leaves so, a file with no table and no page sums,
+-- or that they could not be read.
+abbrev pub IsToldExamined : {M F : Type 0} → Ghosts M F → Reads F → List ℕ → OpenFault → Type 0
+IsToldExamined {F = F} g reads path told =
+    IsUnread told
+    ⊎ (((told ≡ fault.Log) × ((db : F) × (log : F) × g.is_file path db × g.is_log path log × (AreKnown reads log db → ¬ Stands (reads.bytes log) (reads.bytes db))))
+    ⊎ ((told ≡ fault.Empty) × ((db : F) × g.is_file path db × (IsTrue (reads.is_known db) → HasNoTable (reads.bytes db)))))

@@ -1,6 +1,8 @@
--- What is dropped at the end of a connection.
+-- How a connection comes in and is let go, and what is dropped at its end.
 use Rattle.std.specs.Prelude.{◌≡◌, ◌≤◌, ℕ, List, Option, length}
 use Rattle.std.specs.Io.KnownBytes.{Consumes}
+use Rattle.society_host.specs.declared.network.Listener.{Ghosts as Listens}
+use Rattle.society_host.specs.declared.network.Stream.{Ghosts}
 
 -- so many bytes, at most so many, were taken from the front of what was left
 abbrev pub DropsFront : Option (List ℕ) → Option (List ℕ) → ℕ → ℕ → Type 0
@@ -9,3 +11,13 @@ DropsFront old new count most = (taken : List ℕ) × Consumes old new taken × 
 -- at most so many bytes were taken from the front of what was left, and nothing else
 abbrev pub DropsAtMost : Option (List ℕ) → Option (List ℕ) → ℕ → Type 0
 DropsAtMost old new most = (taken : List ℕ) × Consumes old new taken × (length taken ≤ most)
+
+-- one connection came in by what listens, and these are two handles of it
+abbrev pub AcceptsAnew : {L S : Type 0} → Listens L S → Ghosts S → L → S → S → L → Type 0
+AcceptsAnew listens streams old sent given new = listens.accepts old sent new × streams.is_other sent given
+
+-- A handle of a connection was let go of: nothing more was written to its peer, and at most 16 MiB of what that still sent were dropped before
+-- (profile).
+abbrev pub LetsGo : {S : Type 0} → Ghosts S → S → Type 0
+LetsGo {S = S} streams stream =
+    (last : S) × DropsAtMost (streams.remaining stream) (streams.remaining last) 16777216 × (streams.contents last ≡ streams.contents stream) × streams.is_gone last

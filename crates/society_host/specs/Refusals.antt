@@ -1,5 +1,5 @@
 -- What is said where a database is not opened on this machine.
-use Rattle.std.specs.Prelude.{◌≡◌, ◌⊎◌, ℕ, Bool, false, List, [], ◌∷◌, ◌++◌, Result, Ok, Err, bytes_eq, codes, if◌then◌else◌, nat_lt}
+use Rattle.std.specs.Prelude.{◌≡◌, ◌⊎◌, ℕ, Bool, false, true, List, [], ◌∷◌, ◌++◌, Result, Ok, Err, bytes_eq, codes, if◌then◌else◌, nat_lt}
 use Rattle.std.specs.declared.io.ErrorKind.{ErrorKind}
 use Rattle.std.specs.declared.io.ErrorKind.TheVariants.{NotFound}
 use Rattle.sqlite.specs.Files.{HoldsDatabase, IsCleanLeft, IsNothing, LeavesFiles, faults_left, faults_of, image_of}
@@ -32,10 +32,10 @@ abbrev pub fault_by_start : List ℕ → OpenFault
 fault_by_start [] = fault.Damaged
 fault_by_start (byte ∷ bytes) = if bytes_eq (byte ∷ bytes) file_header then fault.Damaged else fault.Store
 
--- whether a database is there, by the kind of the error of a look at it: it is not where nothing is found, or else the look failed (profile)
-abbrev pub presence_by : ErrorKind → Result Bool OpenFault
-presence_by NotFound = Ok false
-presence_by _ = Err fault.Store
+-- whether nothing is there, by the kind of the error of a look
+abbrev pub is_absent : ErrorKind → Bool
+is_absent NotFound = true
+is_absent _ = false
 
 -- what the bytes of a log say of a database whose file is not there, or has no byte: a log of more than 41 has a page, and is what is left of a damaged one; else there is none (profile)
 abbrev pub presence_by_log : ℕ → Result Bool OpenFault
@@ -45,16 +45,15 @@ presence_by_log bytes = if nat_lt 41 bytes then Err fault.Damaged else Ok false
 abbrev pub HoldsNone : Image → Type 0
 HoldsNone image = ¬ (((db : Trees) × HoldsDatabase image db) ⊎ IsNothing image)
 
--- what is told of a path where no database was opened as an office's: memory was refused, the store failed, or damage of file or log; or
--- that there is a database with no table, which is not begun (profile)
-abbrev pub IsToldOfNone : OpenFault → Type 0
-IsToldOfNone told = (told ≡ fault.Memory) ⊎ ((told ≡ fault.Store) ⊎ ((told ≡ fault.Damaged) ⊎ ((told ≡ fault.Log) ⊎ (told ≡ fault.Empty))))
+-- memory was refused, or something could not be read
+abbrev pub IsUnread : OpenFault → Type 0
+IsUnread told = (told ≡ fault.Memory) ⊎ (told ≡ fault.Store)
 
 -- Files that were as they are known to be when they are opened were refused, and this is left of them: damage is told only where they hold
--- no database or the disk failed, and they are left so that they recover as before. Or no file could be opened.
-abbrev pub RefusesFiles : {D O : Type 0} {g : Ghosts D} → (Files D → Type 0) → OpenFault → Left D O g → Type 0
-RefusesFiles IsAsOpened told (Unopened opener) = IsToldOfNone told
-RefusesFiles {D = D} {g = g} IsAsOpened told (Refused left) =
-    IsToldOfNone told × ((files : Files D) × IsAsOpened files
+-- no database or the disk failed, and they are left so that they recover as before. Or no file could be opened, for what is told.
+abbrev pub RefusesFiles : {D O : Type 0} {g : Ghosts D} → (OpenFault → Type 0) → (Files D → Type 0) → OpenFault → Left D O g → Type 0
+RefusesFiles Tells IsAsOpened told (Unopened opener) = Tells told
+RefusesFiles {D = D} {g = g} Tells IsAsOpened told (Refused left) =
+    Tells told × ((files : Files D) × IsAsOpened files
     × (IsCleanLeft left → (told ≡ fault.Damaged → HoldsNone (image_of g files) ⊎ MoreFaults (faults_of g files) (faults_left left)) × LeavesFiles files left))
-RefusesFiles IsAsOpened told _ = ⊥
+RefusesFiles Tells IsAsOpened told _ = ⊥

@@ -1,8 +1,7 @@
 //! What is read of a database before it is opened: a log that no stop leaves so is told, and nothing is opened.
 ghost use Rattle.std.specs.Prelude.{◌≡◌, ◌↔◌, ◌<◌, length, IfErr, IfOk, IsTrue, OnOk};
 ghost use Rattle.log_reading.specs.Stands.{Stands};
-ghost use Rattle.society_host.specs.Examined.{IsBare, IsExamined, TellsOfLog};
-ghost use Rattle.society_host.specs.Refusals.{IsToldOfNone};
+ghost use Rattle.society_host.specs.Examined.{HasNoTable, IsExamined, IsToldExamined, TellsStanding};
 
 use crate::files::HEADER;
 use crate::reading::ReadFiles;
@@ -35,7 +34,7 @@ const ROWS: usize = 103;
 /// database with no table and no page sums, else what is told of a path that can't be read, or `Memory`. Nothing is written.
 pub(crate) fn examine<M: ReadFiles>(alloc: Global, machine: &M, path: &str) -> Result<(), OpenFault>
     ensures examined { OnOk result (IsExamined M.ReadFiles M.File.ReadAt path.now) }
-    ensures told { IfErr result IsToldOfNone }
+    ensures told { IfErr result (IsToldExamined M.ReadFiles M.File.ReadAt path.now) }
 {
     let Some(db) = machine.file_at(path)? else {
         return Ok(());
@@ -57,7 +56,7 @@ pub(crate) fn examine<M: ReadFiles>(alloc: Global, machine: &M, path: &str) -> R
 /// That a log is as a stop of the office can leave it beside a file.
 fn stands<L: ReadAt, D: ReadAt>(alloc: Global, log: &L, db: &D) -> Result<(), OpenFault>
     ensures stands { OnOk result (IsTrue (L.is_known log.now) → IsTrue (D.is_known db.now) → Stands (L.bytes log.now) (D.bytes db.now)) }
-    ensures told { IfErr result (TellsOfLog (IsTrue (L.is_known log.now) × IsTrue (D.is_known db.now)) (Stands (L.bytes log.now) (D.bytes db.now))) }
+    ensures told { IfErr result (TellsStanding (IsTrue (L.is_known log.now) × IsTrue (D.is_known db.now)) (Stands (L.bytes log.now) (D.bytes db.now))) }
 {
     for _ in 1..TRIES {
         if check_log(alloc, log, db).is_ok() {
@@ -85,7 +84,7 @@ fn is_short<L: ReadAt>(log: &L) -> Result<bool, OpenFault>
 
 /// Whether a file is a database with no table and no page sums.
 fn is_bare<D: ReadAt>(db: &D) -> Result<bool, OpenFault>
-    ensures ok { IfOk result (λ bare. IsTrue (D.is_known db.now) → (IsTrue bare ↔ IsBare (D.bytes db.now))) }
+    ensures ok { IfOk result (λ bare. IsTrue (D.is_known db.now) → (IsTrue bare ↔ HasNoTable (D.bytes db.now))) }
     ensures err { IfErr result (λ e. e ≡ OpenFault.Store) }
 {
     let Ok(len) = db.len() else {
@@ -103,7 +102,7 @@ fn is_bare<D: ReadAt>(db: &D) -> Result<bool, OpenFault>
 
 /// The same, by its first bytes.
 fn is_bare_by(start: &[u8; 105]) -> bool
-    ensures { IsTrue result ↔ IsBare start.now }
+    ensures { IsTrue result ↔ HasNoTable start.now }
 {
     if &start[..16] != HEADER {
         return false;

@@ -1,17 +1,21 @@
 //! The files of a machine that hold a database.
-ghost use Rattle.std.specs.Prelude.{◌≡◌, ◌⊎◌, IfErr, false, true};
+ghost use Rattle.std.specs.Prelude.{◌≡◌, ◌⊎◌, IfErr, IfOk, IfSome, None, false, string_bytes, true};
+ghost use Rattle.society_commands.specs.declared.left.Left.TheVariants.{Refused, Unopened};
 ghost use Rattle.sqlite_std_file.specs.File.{IsFresh};
 ghost use Rattle.sqlite_wal.specs.Files.{image_at};
-ghost use Rattle.society_host.specs.Examined.{IsExamined};
-ghost use Rattle.society_host.specs.Found.{IsFoundIn};
-ghost use Rattle.society_host.specs.Refusals.{FaultsAs, IsToldOfNone, RefusesFiles, fault_by_start, presence_by, presence_by_log};
+ghost use Rattle.society_host.specs.Found.{IsOpenedSo, WhyUnopened};
+ghost use Rattle.society_host.specs.Looks.{ArePrivate, AreSeen, FailsBeside, FailsToFind, FindsAt, LacksPages, log_path};
+ghost use Rattle.society_host.specs.Refusals.{FaultsAs, RefusesFiles, fault_by_start, is_absent, presence_by_log};
 
 use crate::examining::examine;
 use crate::machine::Machine;
+use crate::opening::OpensFiles;
+use crate::reading::ReadFiles;
 use log_reading::ReadAt;
 use society_commands::{Left, OpenDatabase};
 use society_opening::OpenFault;
-use sqlite::{Connection, Error, ErrorCode, FileFrom, FileStore, Start};
+use sqlite::{Connection, Error, ErrorCode, FileFrom, FileStore, Leftover, Start};
+use std::alloc::Global;
 use std::io::ErrorKind;
 
 /// What every database file begins with (SQLite's file format, 1.3.1).
@@ -23,38 +27,39 @@ const EMPTY_LOG: u64 = 41;
 /// That each page of a new file has its sum (SQLite's cksumvfs): a bit that changed in the file is found when it is opened.
 const NEW_HAS_SUMS: bool = true;
 
-/// The files of a machine, where `S` stands for what the file that is opened holds. It opens one.
+/// The files of a machine, where `S` stands for what the file that is opened holds, and `O` opens it. It opens one.
 #[derive(Drop)]
-pub struct HostFiles<S: Start, M> {
+pub struct HostFiles<S: Start, M, O> {
     machine: M,
+    opener: Option<O>,
     found: Option<S>,
 }
 
-impl<S: Start, M: Machine + Copy> HostFiles<S, M> {
+impl<S: Start, M: OpensFiles<O> + ReadFiles + Copy, O> HostFiles<S, M, O> {
     /// The files of this machine.
-    pub fn new(machine: M, found: S) -> HostFiles<S, M> {
+    pub fn new(machine: M, opener: O, found: S) -> HostFiles<S, M, O> {
         HostFiles {
             machine,
+            opener: Some(opener),
             found: Some(found),
         }
     }
 }
 
-impl<S: Start, M: Machine + Copy> OpenDatabase for HostFiles<S, M> {
+impl<S: Start, M: OpensFiles<O> + ReadFiles + Copy, O> OpenDatabase for HostFiles<S, M, O> {
     type File = FileFrom<S>;
 
-    // No clause of the system's ties a path to what is there.
-    ghost may_find = { λ path found. Unit {0} };
+    ghost may_find = { λ path found. FindsAt M.Machine path found };
 
-    // Nor a mode.
-    ghost may_be_shared = { λ path others. Unit {0} };
+    ghost may_be_shared = { λ path others. AreSeen M.Machine path others };
 
-    // Nor to bytes: `S` stands for those of the file that is opened.
-    ghost may_open = { λ g path c. IsFoundIn (image_at S.Start) c × IsExamined M.ReadFiles M.File.ReadAt path };
+    // No clause of the system's ties a path to bytes: `S` stands for those of the file that is opened.
+    ghost may_open = { λ g path c. IsOpenedSo M.Machine M.ReadFiles M.File.ReadAt (image_at S.Start) path c };
 
-    ghost may_fail = { λ path fault. IsToldOfNone fault };
+    ghost may_fail = { λ path fault. FailsToFind M.Machine path fault };
 
-    ghost may_refuse = { λ g path fault rest. RefusesFiles (λ files. IsFresh true files.log × IsFresh false files.db) fault rest };
+    ghost may_refuse = { λ g path fault rest. RefusesFiles (WhyUnopened M.Machine M.ReadFiles M.File.ReadAt path)
+        (λ files. IsFresh true files.log × IsFresh false files.db) fault rest };
 
     fn has_database(&self, path: &str) -> Result<bool, OpenFault> {
         look(&self.machine, path)
@@ -64,65 +69,111 @@ impl<S: Start, M: Machine + Copy> OpenDatabase for HostFiles<S, M> {
         self,
         path: &str,
     ) -> Result<(Connection<FileStore<Self::File>>, bool), (OpenFault, Left<Self::File, Self>)> {
-        let HostFiles { machine, found } = self;
-        let used = HostFiles {
-            machine,
-            found: None,
+        let log = match log_path(self.machine.alloc(), path) {
+            Ok(log) => log,
+            Err(fault) => return Err((fault, Left::Unopened(self))),
         };
-        let was_there = match look(&machine, path) {
+        let was_there = match look(&self.machine, path) {
             Ok(was_there) => was_there,
-            Err(fault) => return Err((fault, Left::Unopened(used))),
+            Err(fault) => return Err((fault, Left::Unopened(self))),
         };
-        match examine(machine.alloc(), &machine, path) {
+        match examine(self.machine.alloc(), &self.machine, path) {
             Ok(()) => {}
-            Err(fault) => return Err((fault, Left::Unopened(used))),
+            Err(fault) => return Err((fault, Left::Unopened(self))),
         }
-        let Some(found) = found else {
-            return Err((OpenFault::Store, Left::Unopened(used)));
+        let (machine, opener, found) = match self.into_parts() {
+            Ok(parts) => parts,
+            Err(used) => return Err((OpenFault::Store, Left::Unopened(used))),
         };
-        match machine.open_at(path, NEW_HAS_SUMS, found) {
-            Ok(connection) => Ok((connection, guard(&machine, path, was_there))),
-            Err((error, Some(files))) => {
-                Err((fault_at(&machine, path, &error), Left::Refused(files)))
+        match machine.open_at(opener, path, NEW_HAS_SUMS, found) {
+            Ok(connection) => {
+                let others_write = guard(&machine, path, log.as_str(), was_there);
+                Ok((connection, others_write))
             }
-            Err((error, None)) => { Err((fault_at(&machine, path, &error), Left::Unopened(used))) }
+            Err((error, left)) => Err((fault_at(&machine, path, &error), rest_of(machine, left))),
         }
+    }
+}
+
+impl<S: Start, M, O> HostFiles<S, M, O> {
+    // The machine, what opens on it, and what stands for what the file holds; or itself, where that was used.
+    fn into_parts(self) -> Result<(M, O, S), Self> {
+        let HostFiles {
+            machine,
+            opener,
+            found,
+        } = self;
+        match (opener, found) {
+            (Some(opener), Some(found)) => Ok((machine, opener, found)),
+            (opener, found) => Err(HostFiles {
+                machine,
+                opener,
+                found,
+            }),
+        }
+    }
+}
+
+/// What is left where a database was refused: its files, or what could open none.
+fn rest_of<S: Start, M: Copy, O>(
+    machine: M,
+    left: Option<Leftover<FileFrom<S>>>,
+) -> Left<FileFrom<S>, HostFiles<S, M, O>>
+    ensures files { IfSome left (λ files. result ≡ Refused files) }
+    ensures none { left ≡ None → (opener : _) × (result ≡ Unopened opener) }
+{
+    match left {
+        Some(files) => Left::Refused(files),
+        None => Left::Unopened(HostFiles {
+            machine,
+            opener: None,
+            found: None,
+        }),
+    }
+}
+
+/// The path of the log of a database. `Memory` where memory was refused.
+fn log_path(alloc: Global, path: &str) -> Result<String, OpenFault>
+    ensures path { IfOk result (λ log. string_bytes log ≡ log_path path.now) }
+    ensures err { IfErr result (λ e. e ≡ OpenFault.Memory) }
+{
+    match format!(in alloc; "{path}-wal") {
+        Ok(log) => Ok(log),
+        Err(_) => Err(OpenFault::Memory),
     }
 }
 
 /// Whether there is a database at a path, as `has_database` says.
 fn look<M: Machine>(machine: &M, path: &str) -> Result<bool, OpenFault>
-    ensures { IfErr result IsToldOfNone }
+    ensures found { IfOk result (FindsAt M.Machine path.now) }
+    ensures failed { IfErr result (FailsToFind M.Machine path.now) }
 {
     match machine.look(path) {
         Ok(found) if !found.is_file => Err(OpenFault::Store),
         Ok(found) if found.len > 0 => Ok(true),
         Ok(_) => without_log(machine, path),
-        Err(error) => match presence_by(error.kind()) {
-            Ok(_) => without_log(machine, path),
-            Err(fault) => Err(fault),
-        },
+        Err(error) if is_absent(error.kind()) => without_log(machine, path),
+        Err(_) => Err(OpenFault::Store),
     }
 }
 
 /// That there is no database, where no log with a page stands beside: such a log is what is left of one.
 fn without_log<M: Machine>(machine: &M, path: &str) -> Result<bool, OpenFault>
-    ensures { IfErr result IsToldOfNone }
+    ensures found { IfOk result (λ there. (there ≡ false) × LacksPages M.Machine path.now) }
+    ensures failed { IfErr result (FailsBeside M.Machine path.now) }
 {
-    let Ok(log) = format!(in machine.alloc(); "{path}-wal") else {
-        return Err(OpenFault::Memory);
-    };
+    let log = log_path(machine.alloc(), path)?;
     match machine.look(log.as_str()) {
         Ok(found) => presence_by_log(found.len),
-        Err(error) => presence_by(error.kind()),
+        Err(error) if is_absent(error.kind()) => Ok(false),
+        Err(_) => Err(OpenFault::Store),
     }
 }
 
 /// What the bytes of a log say of a database whose file is not there, or has none: with a page the log is what is left of one, so it is
 /// damaged; else there is none.
 fn presence_by_log(bytes: u64) -> Result<bool, OpenFault>
-    ensures value { result ≡ presence_by_log bytes }
-    ensures told { IfErr result IsToldOfNone }
+    ensures { result ≡ presence_by_log bytes }
 {
     if bytes > EMPTY_LOG {
         Err(OpenFault::Damaged)
@@ -132,12 +183,14 @@ fn presence_by_log(bytes: u64) -> Result<bool, OpenFault>
 }
 
 /// Leaves a new file, and its log, to its owner alone. Whether others may write the file.
-fn guard<M: Machine>(machine: &M, path: &str, was_there: bool) -> bool {
+fn guard<M: Machine>(machine: &M, path: &str, log: &str, was_there: bool) -> bool
+    requires { was_there ≡ false → M.is_made path.now × M.is_made log.now }
+    ensures private { was_there ≡ false → M.is_private path.now × M.is_private log.now }
+    ensures seen { AreSeen M.Machine path.now result }
+{
     if !was_there {
         machine.make_private(path);
-        if let Ok(log) = format!(in machine.alloc(); "{path}-wal") {
-            machine.make_private(log.as_str());
-        }
+        machine.make_private(log);
     }
     match machine.look(path) {
         Ok(found) => found.others_write,
@@ -145,21 +198,20 @@ fn guard<M: Machine>(machine: &M, path: &str, was_there: bool) -> bool {
     }
 }
 
-/// What it says of a database's presence that a look at its path failed so: that there is none, or that the store failed.
-fn presence_by(kind: ErrorKind) -> Result<bool, OpenFault>
-    ensures { result ≡ presence_by kind }
+/// Whether nothing is at a path, by the kind of the error of a look there.
+fn is_absent(kind: ErrorKind) -> bool
+    ensures { result ≡ is_absent kind }
 {
     match kind {
-        ErrorKind::NotFound => Ok(false),
-        _ => Err(OpenFault::Store),
+        ErrorKind::NotFound => true,
+        _ => false,
     }
 }
 
 /// What an error of opening the database at a path says. Where SQLite finds no database in the files, the file's first bytes tell whether
 /// it was one.
-fn fault_at<M: Machine>(machine: &M, path: &str, error: &Error) -> OpenFault
-    ensures faults { FaultsAs error.now result }
-    ensures told { IsToldOfNone result }
+fn fault_at<M: ReadFiles>(machine: &M, path: &str, error: &Error) -> OpenFault
+    ensures { FaultsAs error.now result }
 {
     match error {
         Error::SqliteFailure(ErrorCode::OutOfMemory) => OpenFault::Memory,
@@ -171,7 +223,7 @@ fn fault_at<M: Machine>(machine: &M, path: &str, error: &Error) -> OpenFault
 
 /// What is said of a file in which SQLite finds no database: it is damaged where it begins as one, or has no byte and so all that was
 /// written to it in its log; else it is none.
-fn no_database<M: Machine>(machine: &M, path: &str) -> OpenFault
+fn no_database<M: ReadFiles>(machine: &M, path: &str) -> OpenFault
     ensures { (result ≡ OpenFault.Damaged) ⊎ (result ≡ OpenFault.Store) }
 {
     let Ok(Some(file)) = machine.file_at(path) else {

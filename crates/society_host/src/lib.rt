@@ -5,7 +5,10 @@
 mod examining;
 mod files;
 mod listening;
+mod look;
 mod machine;
+mod network;
+mod opening;
 mod parting;
 mod patience;
 mod reading;
@@ -13,6 +16,9 @@ mod waits;
 
 pub use files::HostFiles;
 pub use listening::{Host, HostDoor};
-pub use machine::{Look, Machine, Stream};
+pub use look::Look;
+pub use machine::Machine;
+pub use network::{Listener, Port, Stream};
+pub use opening::OpensFiles;
 pub use patience::Patient;
 pub use reading::ReadFiles;

@@ -1,9 +1,10 @@
 //! Where connections come in on this machine.
-ghost use Rattle.std.specs.Prelude.{◌≡◌, true};
+ghost use Rattle.std.specs.Prelude.{◌≡◌, IfOk, true};
 ghost use Rattle.std.specs.IoError.{error_kind, raw_os_error};
-ghost use Rattle.society_host.specs.Waiting.{is_passing};
+ghost use Rattle.society_host.specs.Parting.{AcceptsAnew, LetsGo};
+ghost use Rattle.society_host.specs.Waiting.{IsUnspent, is_passing};
 
-use crate::machine::{Machine, Stream};
+use crate::network::{Listener, Port, Stream};
 use crate::parting::part;
 use crate::patience::Patient;
 use desk_connections::{AcceptFault, Door, Listen};
@@ -21,30 +22,32 @@ const PAUSE: u64 = 100;
 /// The system's numbers for no descriptor left, in the whole system and in this process (`ENFILE`, `EMFILE`).
 const NO_DESCRIPTOR: [i32; 2] = [23, 24];
 
-/// The machine as what listens.
+/// What listens at a port of this machine, by its clock.
 #[derive(Drop)]
-pub struct Host<M> {
-    machine: M,
+pub struct Host<C, P> {
+    clock: C,
+    port: P,
 }
 
-impl<M: Machine + Copy> Host<M> {
-    /// This machine.
-    pub fn new(machine: M) -> Host<M> {
-        Host { machine }
+impl<C: Clock + Copy, P: Port> Host<C, P> {
+    /// What listens so.
+    pub fn new(clock: C, port: P) -> Host<C, P> {
+        Host { clock, port }
     }
 }
 
-impl<M: Machine + Copy> Listen for Host<M> {
-    type Door = HostDoor<M>;
+impl<C: Clock + Copy, P: Port> Listen for Host<C, P> {
+    type Door = HostDoor<C, P::Listener>;
 
-    ghost listens_at = { λ address door. M.listens_at address door.listener };
+    ghost listens_at = { λ address door. P.listens_at address door.listener };
 
-    ghost may_fail_at = { λ address. M.may_fail_at address };
+    ghost may_fail_at = { λ address. P.may_fail_at address };
 
-    fn listen(self, address: SocketAddrV4, patience: u32) -> io::Result<HostDoor<M>> {
-        let listener = self.machine.bind(address)?;
+    fn listen(self, address: SocketAddrV4, patience: u32) -> io::Result<HostDoor<C, P::Listener>> {
+        let Host { clock, port } = self;
+        let listener = port.bind(address)?;
         Ok(HostDoor {
-            machine: self.machine,
+            clock,
             listener,
             patience,
             accepted: 0,
@@ -55,28 +58,28 @@ impl<M: Machine + Copy> Listen for Host<M> {
 
 /// A listener that knows how many connections it accepted, and whether it ever failed to.
 #[derive(Drop)]
-pub struct HostDoor<M: Machine> {
-    machine: M,
-    listener: M::Listener,
+pub struct HostDoor<C, L> {
+    clock: C,
+    listener: L,
     patience: u32,
     accepted: u64,
     has_failed: bool,
 }
 
-impl<M: Machine> HostDoor<M> {
+impl<C, L> HostDoor<C, L> {
     // Takes down that no connection could be accepted.
     fn fail(&mut self) -> AcceptFault
-        ensures { (self.new.accepted ≡ self.old.accepted) × (self.new.has_failed ≡ true) }
+        ensures { (self.new.accepted ≡ self.old.accepted) × (self.new.has_failed ≡ true) × (self.new.patience ≡ self.old.patience) }
     {
         self.has_failed = true;
         AcceptFault
     }
 }
 
-impl<M: Machine + Copy> Door for HostDoor<M> {
-    type Sent = Patient<M, M::Stream>;
+impl<C: Clock + Copy, L: Listener> Door for HostDoor<C, L> {
+    type Sent = Patient<C, L::Stream>;
 
-    type Given = Patient<M, M::Stream>;
+    type Given = Patient<C, L::Stream>;
 
     ghost accepted = { λ door. door.accepted };
 
@@ -84,56 +87,69 @@ impl<M: Machine + Copy> Door for HostDoor<M> {
 
     ghost patience = { λ door. door.patience };
 
+    ghost sent_patience = { λ way. way.waits.patience };
+
+    ghost given_patience = { λ way. way.waits.patience };
+
     ghost sent_by = { λ way. way.number };
 
     ghost given_to = { λ way. way.number };
 
-    // No clause of the system's ties a connection to its listener.
-    ghost admits = { λ door sent given new_door. Unit {0} };
+    ghost admits = { λ door sent given new_door. AcceptsAnew L.Listener L.Stream.Stream door.listener sent.stream given.stream new_door.listener
+        × IsUnspent sent.waits × IsUnspent given.waits };
 
-    ghost parts = { λ door sent given new_door. Unit {0} };
+    ghost parts = { λ door sent given new_door. L.Stream.is_gone given.stream × LetsGo L.Stream.Stream sent.stream × (new_door ≡ door) };
 
     /// What says nothing of the listener is tried again for half a minute: that no descriptor is left, or that a peer went before it was
     /// accepted. No read and no write of a connection waits longer than half a minute, where the system lets that be set, and each way no longer
     /// than the patience in all.
-    fn accept(&mut self) -> Result<(Patient<M, M::Stream>, Patient<M, M::Stream>), AcceptFault> {
+    fn accept(&mut self) -> Result<(Patient<C, L::Stream>, Patient<C, L::Stream>), AcceptFault> {
         let Some(number) = self.accepted.checked_add(1) else {
             return Err(self.fail());
         };
-        let Ok(stream) = accept(&self.machine, &self.listener) else {
+        let Ok(stream) = accept(&self.clock, &mut self.listener) else {
             return Err(self.fail());
         };
-        let Ok(other) = another(&self.machine, &stream) else {
-            return Err(self.fail());
-        };
-        self.accepted = number;
-        let sent = Patient::new(self.machine, stream, number, self.patience);
-        let given = Patient::new(self.machine, other, number, self.patience);
-        Ok((sent, given))
+        match another(&self.clock, &stream) {
+            Ok(other) => {
+                self.accepted = number;
+                let sent = Patient::new(self.clock, stream, number, self.patience);
+                let given = Patient::new(self.clock, other, number, self.patience);
+                Ok((sent, given))
+            }
+            Err(_) => {
+                stream.let_go();
+                Err(self.fail())
+            }
+        }
     }
 
-    fn part(&mut self, sent: Patient<M, M::Stream>, given: Patient<M, M::Stream>) {
-        drop(given);
-        part(&self.machine, sent.into_stream());
+    fn part(&mut self, sent: Patient<C, L::Stream>, given: Patient<C, L::Stream>) {
+        given.into_stream().let_go();
+        part(&self.clock, sent.into_stream());
     }
 }
 
 // The next connection at a listener, as `Door` says; the error is that of the last try.
-fn accept<M: Machine>(machine: &M, listener: &M::Listener) -> io::Result<M::Stream> {
+fn accept<C: Clock, L: Listener>(clock: &C, listener: &mut L) -> io::Result<L::Stream>
+    ensures accepted { IfOk result (λ stream. L.accepts listener.old stream listener.new) }
+{
     for _ in 1..MOST_TRIES {
-        match machine.accept(listener) {
+        match listener.accept() {
             Ok(stream) => return Ok(stream),
             Err(error) if is_passing(&error) => {
-                thread::sleep(machine, Duration::from_millis(PAUSE));
+                thread::sleep(clock, Duration::from_millis(PAUSE));
             }
             Err(error) => return Err(error),
         }
     }
-    machine.accept(listener)
+    listener.accept()
 }
 
 // A second handle of a connection, one for each of its ways; where no descriptor is left for it, it is tried as an accept is.
-fn another<C: Clock, S: Stream + Drop>(clock: &C, stream: &S) -> io::Result<S> {
+fn another<C: Clock, S: Stream>(clock: &C, stream: &S) -> io::Result<S>
+    ensures { IfOk result (S.is_other stream.now) }
+{
     for _ in 1..MOST_TRIES {
         match stream.another() {
             Err(error) if is_passing(&error) => {

@@ -1,14 +1,15 @@
 //! A connection that waits for its peer, but not for ever, and that a signal does not cut off: a process that is stopped and goes on again
 //! reads and writes on.
-ghost use Rattle.std.specs.Prelude.{◌≡◌, ◌≢◌, ◌≤◌, ◌*◌, ◌^◌, IfErr};
+ghost use Rattle.std.specs.Prelude.{◌≡◌, ◌≢◌, ◌≤◌, ◌*◌, ◌^◌, IfErr, IsErr};
 ghost use Rattle.std.specs.Duration.{as_nanos};
 ghost use Rattle.std.specs.Io.{ReadsAtMost, WritesAtMost};
 ghost use Rattle.std.specs.Io.KnownBytes.{ReadConsumes, WriteAppends};
 ghost use Rattle.std.specs.IoError.{error_kind};
 ghost use Rattle.std.specs.declared.io.ErrorKind.TheVariants.{Interrupted};
+ghost use Rattle.society_host.specs.Waiting.{IsSpent, TakesDown};
 
-use crate::machine::Stream;
-use crate::waits::{LONGEST_WAIT, Waits};
+use crate::network::Stream;
+use crate::waits::Waits;
 use std::io::{self, ErrorKind, Read, Write};
 use std::time::{Clock, Duration, Instant};
 
@@ -18,35 +19,40 @@ const SHORTEST_WAIT: u64 = 1;
 /// One way of a connection, of which no read and no write waits longer than half a minute, where the system lets that be set, and all of them
 /// together no longer than its patience, which it has anew for each MiB that moves. What a signal interrupts is tried again, with what is left
 /// of its wait, at least a second. What it reads is what its stream gave, and what is written to it went there.
-#[derive(Drop)]
 pub struct Patient<C: Clock, S: Stream> {
     clock: C,
     stream: S,
     number: u64,
     waits: Waits,
-    /// The wait to which its stream is bound.
-    bound: Duration,
 }
 
-impl<C: Clock + Drop, S: Stream> Patient<C, S> {
-    /// A way of the connection of this number, which waits for so many seconds in all; its stream is bound to half a minute.
+impl<C: Clock + Copy, S: Stream> Patient<C, S> {
+    /// A way of the connection of this number, which waits for so many seconds in all.
     pub(crate) fn new(clock: C, stream: S, number: u64, patience: u32) -> Patient<C, S>
+        ensures stream { result.stream ≡ stream }
         ensures number { result.number ≡ number }
         ensures patience { result.waits.patience ≡ patience }
+        ensures unspent { (as_nanos result.waits.waited ≡ 0) × (result.waits.moved ≡ 0) }
     {
-        bound_waits(&stream, Duration::from_secs(LONGEST_WAIT));
         Patient {
             clock,
             stream,
             number,
             waits: Waits::new(patience),
-            bound: Duration::from_secs(LONGEST_WAIT),
         }
     }
 
     /// The connection itself.
-    pub(crate) fn into_stream(self) -> S {
-        self.stream
+    pub(crate) fn into_stream(self) -> S
+        ensures { result ≡ self.stream }
+    {
+        let Patient {
+            clock: _,
+            stream,
+            number: _,
+            waits: _,
+        } = self;
+        stream
     }
 }
 
@@ -74,16 +80,6 @@ impl<C: Clock, S: Stream> Patient<C, S> {
         left.max(Duration::from_secs(SHORTEST_WAIT))
     }
 
-    // Binds the stream to a wait, where it is bound to another.
-    fn bind(&mut self, wait: Duration)
-        ensures { self.new.stream ≡ self.old.stream }
-    {
-        if wait != self.bound {
-            bound_waits(&self.stream, wait);
-            self.bound = wait;
-        }
-    }
-
     // Reads until no signal ends it.
     fn read_on(
         &mut self,
@@ -93,16 +89,17 @@ impl<C: Clock, S: Stream> Patient<C, S> {
     ) -> io::Result<usize>
         requires { as_nanos wait ≤ 30 * 10 ^ 9 }
         ensures bound { ReadsAtMost result buffer.new }
-        ensures bytes { ReadConsumes (S.Read.remaining self.old.stream) (S.Read.remaining self.new.stream) result buffer.new }
+        ensures bytes { ReadConsumes (S.remaining self.old.stream) (S.remaining self.new.stream) result buffer.new }
         ensures retried { IfErr result (λ e. error_kind e ≢ Interrupted) }
+        ensures waits { self.new.waits ≡ self.old.waits }
     {
-        self.bind(wait);
+        let mut left = wait;
         for _ in 0..u64::MAX {
-            match self.stream.read(buffer) {
+            match self.stream.read_within(left, buffer) {
                 Err(error) if error.kind() == ErrorKind::Interrupted => {}
                 outcome => return outcome,
             }
-            self.bind(self.time_left(begun, wait));
+            left = self.time_left(begun, wait);
         }
         Err(ErrorKind::TimedOut.into())
     }
@@ -116,23 +113,25 @@ impl<C: Clock, S: Stream> Patient<C, S> {
     ) -> io::Result<usize>
         requires { as_nanos wait ≤ 30 * 10 ^ 9 }
         ensures bound { WritesAtMost result bytes.now }
-        ensures bytes { WriteAppends (S.Write.contents self.old.stream) (S.Write.contents self.new.stream) result bytes.now }
+        ensures bytes { WriteAppends (S.contents self.old.stream) (S.contents self.new.stream) result bytes.now }
         ensures retried { IfErr result (λ e. error_kind e ≢ Interrupted) }
+        ensures waits { self.new.waits ≡ self.old.waits }
     {
-        self.bind(wait);
+        let mut left = wait;
         for _ in 0..u64::MAX {
-            match self.stream.write(bytes) {
+            match self.stream.write_within(left, bytes) {
                 Err(error) if error.kind() == ErrorKind::Interrupted => {}
                 outcome => return outcome,
             }
-            self.bind(self.time_left(begun, wait));
+            left = self.time_left(begun, wait);
         }
         Err(ErrorKind::TimedOut.into())
     }
 
     // Takes down what a call that began at a time came to.
     fn spend(&mut self, begun: Option<Instant>, outcome: &io::Result<usize>)
-        ensures { self.new.stream ≡ self.old.stream }
+        ensures stream { self.new.stream ≡ self.old.stream }
+        ensures waits { TakesDown self.old.waits self.new.waits outcome.now }
     {
         let moved = match outcome {
             Ok(count) => *count as u64,
@@ -144,13 +143,15 @@ impl<C: Clock, S: Stream> Patient<C, S> {
 }
 
 impl<C: Clock, S: Stream> Read for Patient<C, S> {
-    ghost remaining = { λ way. S.Read.remaining way.stream };
+    ghost remaining = { λ way. S.remaining way.stream };
 
     /// One read. The error is the system's, or that no patience is left, and never that a signal came.
     fn read(&mut self, buffer: &mut [u8]) -> io::Result<usize>
         ensures bound { ReadsAtMost result buffer.new }
-        ensures bytes { ReadConsumes (S.Read.remaining self.old.stream) (S.Read.remaining self.new.stream) result buffer.new }
+        ensures bytes { ReadConsumes (S.remaining self.old.stream) (S.remaining self.new.stream) result buffer.new }
         ensures retried { IfErr result (λ e. error_kind e ≢ Interrupted) }
+        ensures spent { IsSpent self.old.waits → IsErr result × (self.new ≡ self.old) }
+        ensures waits { ¬ IsSpent self.old.waits → TakesDown self.old.waits self.new.waits result }
     {
         let Some(wait) = self.waits.next() else {
             return Err(ErrorKind::TimedOut.into());
@@ -163,13 +164,15 @@ impl<C: Clock, S: Stream> Read for Patient<C, S> {
 }
 
 impl<C: Clock, S: Stream> Write for Patient<C, S> {
-    ghost contents = { λ way. S.Write.contents way.stream };
+    ghost contents = { λ way. S.contents way.stream };
 
     /// One write. The error is the system's, or that no patience is left, and never that a signal came.
     fn write(&mut self, bytes: &[u8]) -> io::Result<usize>
         ensures bound { WritesAtMost result bytes.now }
-        ensures bytes { WriteAppends (S.Write.contents self.old.stream) (S.Write.contents self.new.stream) result bytes.now }
+        ensures bytes { WriteAppends (S.contents self.old.stream) (S.contents self.new.stream) result bytes.now }
         ensures retried { IfErr result (λ e. error_kind e ≢ Interrupted) }
+        ensures spent { IsSpent self.old.waits → IsErr result × (self.new ≡ self.old) }
+        ensures waits { ¬ IsSpent self.old.waits → TakesDown self.old.waits self.new.waits result }
     {
         let Some(wait) = self.waits.next() else {
             return Err(ErrorKind::TimedOut.into());
@@ -183,9 +186,4 @@ impl<C: Clock, S: Stream> Write for Patient<C, S> {
     fn flush(&mut self) -> io::Result<()> {
         Ok(())
     }
-}
-
-/// Bounds the wait of each read and write. Where the system refuses that, the connection is served all the same: no byte of it failed.
-pub(crate) fn bound_waits<S: Stream>(stream: &S, wait: Duration) {
-    let _ = stream.bound_waits(wait);
 }

@@ -1,6 +1,6 @@
 //! A database's file and its log, which are read before anything is opened.
 ghost use Rattle.std.specs.Prelude.{List, ℕ, IfErr, IfOk, MatchOption};
-ghost use Rattle.society_host.specs.Refusals.{IsToldOfNone};
+ghost use Rattle.society_host.specs.Refusals.{IsUnread};
 
 use log_reading::ReadAt;
 use society_opening::OpenFault;
@@ -20,13 +20,13 @@ pub trait ReadFiles {
 
     ghost lacks_log: { List ℕ → Type 0 };
 
-    /// The file of the database at a path, if there is one. The error is told of the path.
+    /// The file of the database at a path, if there is one. `Store` where it can't be read, `Memory` where memory was refused.
     fn file_at(&self, path: &str) -> Result<Option<Self::File>, OpenFault>
         ensures found { IfOk result (λ found. MatchOption found (lacks_file path.now) (is_file path.now)) }
-        ensures failed { IfErr result IsToldOfNone };
+        ensures failed { IfErr result IsUnread };
 
-    /// The log of the database at a path, beside the file to which a link there leads, if there is one. The error is told of the path.
+    /// The log of the database at a path, beside the file to which a link there leads, if there is one. The error is as that of `file_at`.
     fn log_at(&self, path: &str) -> Result<Option<Self::File>, OpenFault>
         ensures found { IfOk result (λ found. MatchOption found (lacks_log path.now) (is_log path.now)) }
-        ensures failed { IfErr result IsToldOfNone };
+        ensures failed { IfErr result IsUnread };
 }

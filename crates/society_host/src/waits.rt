@@ -1,6 +1,6 @@
 //! How long one way of a connection may wait for its peer.
-ghost use Rattle.std.specs.Prelude.{◌≡◌, ◌≤◌, ◌<◌, ◌+◌, ◌*◌, ◌^◌, IfSome, None};
-ghost use Rattle.std.specs.Duration.{as_nanos};
+ghost use Rattle.std.specs.Prelude.{◌≡◌, ◌≤◌, ◌<◌, ◌+◌, ◌-◌, ◌*◌, ◌^◌, IfSome, None, min};
+ghost use Rattle.std.specs.Duration.{as_nanos, max_nanos};
 ghost use Rattle.society_host.specs.Waiting.{nanos_allowed};
 
 use std::time::Duration;
@@ -25,7 +25,8 @@ pub(crate) struct Waits {
 impl Waits {
     /// So many seconds of patience, of which none are spent.
     pub(crate) fn new(patience: u32) -> Waits
-        ensures { result.patience ≡ patience }
+        ensures patience { result.patience ≡ patience }
+        ensures unspent { (as_nanos result.waited ≡ 0) × (result.moved ≡ 0) }
     {
         Waits {
             patience,
@@ -57,7 +58,9 @@ impl Waits {
 
     /// Takes down that it waited so long, and that so many bytes moved.
     pub(crate) fn spend(&mut self, waited: Duration, moved: u64)
-        ensures { self.new.patience ≡ self.old.patience }
+        ensures patience { self.new.patience ≡ self.old.patience }
+        ensures waited { as_nanos self.new.waited ≡ min (as_nanos self.old.waited + as_nanos waited) max_nanos }
+        ensures moved { self.new.moved ≡ min (self.old.moved + moved) (2 ^ 64 - 1) }
     {
         self.waited = self.waited.saturating_add(waited);
         self.moved = self.moved.saturating_add(moved);

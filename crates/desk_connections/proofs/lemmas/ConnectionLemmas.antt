@@ -15,7 +15,7 @@ use Rattle.http_desk.proofs.lemmas.AnsweredLemmas.{answered_on, none_answered}
 use Rattle.society_core.specs.Requests.{Reply}
 use Rattle.society_core.specs.State.{Rises, State}
 use Rattle.desk_connections.specs.Connections.{IsCounted, IsGivenUpSo, IsServedSo, Prints, ServesConnections, ServesEach, ServesNext, ServesOne, connection_line, connection_lines, parts_brought, replies_given, requests_of}
-use Rattle.desk_connections.specs.Doors.{ComeInOrder, Connection, Ways}
+use Rattle.desk_connections.specs.Doors.{Admits, ComeInOrder, Connection, Ways}
 use Rattle.desk_connections.specs.Faults.{most_turns}
 
 -- ---- what is printed
@@ -124,14 +124,15 @@ module _ {D R V : Type 0} (ways : Ways D R V) where
 
   -- what is known of a connection is that it was served from its two ways, between a door that let it in and one that took them back
   module _ {S : Type 0} (state : S → State) (desk new_desk : S) (door open_door new_door : D) (reader new_reader : Counted R) (writer new_writer : Counted V) where
-    one_served : (c : Connection R V) → ways.doors.admits door c.sent c.given open_door → ways.doors.parts open_door (inner_of new_reader) (inner_of new_writer) new_door
+    one_served : (c : Connection R V) → Admits ways door c.sent c.given open_door → ways.doors.patience new_door ≡ ways.doors.patience door → ways.doors.parts open_door (inner_of new_reader) (inner_of new_writer) new_door
         → (inner_of reader ≡ c.sent) × (inner_of writer ≡ c.given)
         → IfOk c.outcome (IsServedSo ways state desk new_desk reader writer new_writer c) → IfErr c.outcome (IsGivenUpSo ways state desk new_desk reader new_reader writer new_writer c)
         → OnOk c.outcome (NeitherFails reader new_reader writer new_writer) → KeepsTurns ways.sent reader new_reader most_turns
         → requests_of c.outcome ≡ length c.parts → AreAnswered state c.parts c.replies desk new_desk → ServesOne ways state desk new_desk door new_door c
-    one_served c admitted parted begins served given_up kept turns count answers = record {
+    one_served c admitted waits parted begins served given_up kept turns count answers = record {
       open_door = open_door;
       admitted = admitted;
+      waits = waits;
       parted = parted;
       reader = reader;
       new_reader = new_reader;
@@ -147,15 +148,15 @@ module _ {D R V : Type 0} (ways : Ways D R V) where
     }
 
     -- a connection that was served from its ways, or given up, is one with the requests of which that is told
-    pub serves_one : (sent : R) (given : V) (outcome : Result Served DeskFault) → ways.doors.admits door sent given open_door
+    pub serves_one : (sent : R) (given : V) (outcome : Result Served DeskFault) → Admits ways door sent given open_door → ways.doors.patience new_door ≡ ways.doors.patience door
         → ways.doors.parts open_door (inner_of new_reader) (inner_of new_writer) new_door → inner_of reader ≡ sent → inner_of writer ≡ given
         → IfOk outcome (IsServed state ways.sent ways.given desk new_desk reader writer new_writer)
         → IfErr outcome (IsGivenUp state ways.sent ways.given desk new_desk reader new_reader writer new_writer most_turns)
         → OnOk outcome (NeitherFails reader new_reader writer new_writer) → KeepsTurns ways.sent reader new_reader most_turns
         → (c : Connection R V) × (c.outcome ≡ outcome) × (c.sent ≡ sent) × (c.given ≡ given) × ServesOne ways state desk new_desk door new_door c
-    serves_one sent given (Ok served) admitted parted reads writes is none kept turns =
+    serves_one sent given (Ok served) admitted waits parted reads writes is none kept turns =
         let c : Connection R V = record { sent = sent; given = given; parts = is.parts; replies = is.replies; outcome = Ok served } in
-        (c, refl, refl, refl, one_served c admitted parted (reads, writes) (is, refl, refl) tt kept turns is.count is.answers)
-    serves_one sent given (Err fault) admitted parted reads writes none is kept turns =
+        (c, refl, refl, refl, one_served c admitted waits parted (reads, writes) (is, refl, refl) tt kept turns is.count is.answers)
+    serves_one sent given (Err fault) admitted waits parted reads writes none is kept turns =
         let c : Connection R V = record { sent = sent; given = given; parts = is.breaks.parts; replies = is.breaks.replies; outcome = Err fault } in
-        (c, refl, refl, refl, one_served c admitted parted (reads, writes) tt (is, refl, refl) kept turns is.breaks.count is.breaks.answers)
+        (c, refl, refl, refl, one_served c admitted waits parted (reads, writes) tt (is, refl, refl) kept turns is.breaks.count is.breaks.answers)

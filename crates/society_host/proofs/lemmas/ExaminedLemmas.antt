@@ -3,12 +3,12 @@ use Rattle.std.proofs.Common.{◌≡◌, ℕ, List, length, take, sym, ◌∙◌
 use Rattle.sqlite_disk.specs.Disk.{Holds}
 use Rattle.sqlite_wal.proofs.FormatLemmas.{part_front}
 use Rattle.sqlite_wal.proofs.PartLemmas.{part_held}
-use Rattle.society_host.specs.Examined.{IsBare}
+use Rattle.society_host.specs.Examined.{HasNoTable}
 
 same_start : (db start : List ℕ) → Holds db 0 start → length start ≡ 105 → take 16 db ≡ take 16 start
 same_start db start held len = sym (part_front db 16) ∙ part_held db start 0 0 16 held (omega arith) ∙ part_front start 16
 
-pub bare_from : (db start : List ℕ) → Holds db 0 start → length start ≡ 105 → IsBare start → IsBare db
+pub bare_from : (db start : List ℕ) → Holds db 0 start → length start ≡ 105 → HasNoTable start → HasNoTable db
 bare_from db start held len bare = record {
   long = omega (arith, held.within);
   header = same_start db start held len ∙ bare.header;
@@ -18,7 +18,7 @@ bare_from db start held len bare = record {
   none_low = held.each 104 (omega arith) ∙ bare.none_low;
 }
 
-pub bare_to : (db start : List ℕ) → Holds db 0 start → length start ≡ 105 → IsBare db → IsBare start
+pub bare_to : (db start : List ℕ) → Holds db 0 start → length start ≡ 105 → HasNoTable db → HasNoTable start
 bare_to db start held len bare = record {
   long = omega arith;
   header = sym (same_start db start held len) ∙ bare.header;

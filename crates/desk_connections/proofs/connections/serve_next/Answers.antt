@@ -10,7 +10,7 @@ returns g c =
     let given = c.in_ok-sent.given in
     let serves = c.serve-outcome.ensures in
     let one = serves_one (ways_by g.D.Door g.D.Sent.Read.remaining g.D.Given.Write.contents) g.S.Store.state c.args.desk.now c.serve-outcome.new.desk c.args.door.now c.accept.new.self c.part.new.self c.new-reader.result c.serve-outcome.new.reader
-    c.new-writer.result c.serve-outcome.new.writer sent given c.serve-outcome.result took.admitted
+    c.new-writer.result c.serve-outcome.new.writer sent given c.serve-outcome.result (took.admitted, took.patient.0, took.patient.1) (c.part.ensures.waits ∙ took.waits)
     (rw (c.into_inner.ensures, c.into_inner-2.ensures) at c.part.ensures.parted) c.new-reader.ensures.inner c.new-writer.ensures.inner serves.served serves.err serves.kept serves.turns in
     record {
       served = (

@@ -9,6 +9,7 @@ loop-allowed-preserved g c =
     let dropped = c.in-Some-drop_some.ensures.dropped in
     let some = c.in-Some-drop_some.ensures.some in (
       before.0 ++ dropped.0,
-      consumes_on (g.S.Read.remaining c.args.rest.now) (g.S.Read.remaining c.loop-allowed.rest) (g.S.Read.remaining c.drop_some.new.rest) before.0 dropped.0 before.1 dropped.1,
+      consumes_on (g.S.Stream.remaining c.args.rest.now) (g.S.Stream.remaining c.loop-allowed.rest) (g.S.Stream.remaining c.drop_some.new.rest) before.0 dropped.0 before.1 dropped.1,
       omega (arith, length-append before.0 dropped.0, before.2, dropped.2, some.1),
+      c.drop_some.ensures.unwritten ∙ before.3,
     )
