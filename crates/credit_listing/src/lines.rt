@@ -1,9 +1,9 @@
 //! Lines of a reader.
-ghost use Rattle.std.specs.Prelude.{◌≡◌, ◌≤◌, [], false, length, take, IfOk, OnOk};
+ghost use Rattle.std.specs.Prelude.{◌≡◌, ◌≤◌, [], false, length, take, IfErr, IfOk, OnOk};
 ghost use Rattle.std.specs.Io.KnownBytes.{IsAtEnd};
-ghost use Rattle.http_desk.specs.Counted.{inner_of};
+ghost use Rattle.http_desk.specs.Counted.{failures_of, inner_of};
 ghost use Rattle.http_desk.specs.Input.{unread};
-ghost use Rattle.credit_listing.specs.Lines.{Comes, IsLine};
+ghost use Rattle.credit_listing.specs.Lines.{ComesBehind, IsLine, IsReadFault};
 
 use http_desk::{Counted, FaultKind, Input};
 use memchr::memchr;
@@ -23,7 +23,9 @@ pub(crate) fn next_line<R: Read>(
 ) -> Result<usize, FaultKind>
     ensures within { IfOk result (λ count. count ≤ length (unread input.new)) }
     ensures line { IfOk result (λ count. IsLine (take count (unread input.new))) }
-    ensures came { OnOk result (Comes R.remaining reader.old reader.new input.old input.new) }
+    ensures came { ComesBehind R.remaining reader.old reader.new input.old input.new }
+    ensures kept { OnOk result (failures_of reader.new ≡ failures_of reader.old) }
+    ensures failed { IfErr result (λ kind. IsReadFault kind (failures_of reader.old) (failures_of reader.new)) }
     ensures ended { IfOk result (λ count. count ≡ 0 → (unread input.new ≡ []) × IsAtEnd (R.remaining (inner_of reader.new))) }
 {
     let mut seen = 0;
@@ -47,7 +49,9 @@ fn read_on<R: Read>(
 ) -> Result<bool, FaultKind>
     requires { seen ≡ length (unread input.old) }
     ensures more { IfOk result (λ _. seen ≤ length (unread input.new)) }
-    ensures came { OnOk result (Comes R.remaining reader.old reader.new input.old input.new) }
+    ensures came { ComesBehind R.remaining reader.old reader.new input.old input.new }
+    ensures kept { OnOk result (failures_of reader.new ≡ failures_of reader.old) }
+    ensures failed { IfErr result (λ kind. IsReadFault kind (failures_of reader.old) (failures_of reader.new)) }
     ensures ended { IfOk result (λ more. more ≡ false → (unread input.new ≡ unread input.old) × IsAtEnd (R.remaining (inner_of reader.new))) }
 {
     if seen > MAX_LINE {

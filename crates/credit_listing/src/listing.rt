@@ -1,10 +1,10 @@
 //! What orders would credit, listed.
-ghost use Rattle.std.specs.Prelude.{◌≡◌, IfOk, Ok, OnOk, is_ok, true};
+ghost use Rattle.std.specs.Prelude.{◌≡◌, IfErr, IfOk, Ok, OnOk, is_ok, true};
 ghost use Rattle.std.specs.Io.KnownBytes.{Appends};
-ghost use Rattle.http_desk.specs.Counted.{inner_of};
+ghost use Rattle.http_desk.specs.Counted.{failures_of, inner_of};
 ghost use Rattle.society_book.specs.Steps.{Looks};
 ghost use Rattle.society_rows.specs.Between.{Within};
-ghost use Rattle.credit_listing.specs.Answered.{ListsCredits, TellsAnswer};
+ghost use Rattle.credit_listing.specs.Answered.{EndsListing, IsWriteFault, TellsAnswer};
 ghost use Rattle.credit_listing.specs.Rows.{shares_text};
 
 use crate::answering::answer_line;
@@ -30,7 +30,9 @@ fn write_rows<W: Write>(
     shares: &[RecordingShare],
     out: &mut Counted<W>,
 ) -> Result<(), FaultKind>
-    ensures { OnOk result (Appends (W.contents (inner_of out.old)) (W.contents (inner_of out.new)) (shares_text number shares.now)) }
+    ensures rows { OnOk result (Appends (W.contents (inner_of out.old)) (W.contents (inner_of out.new)) (shares_text number shares.now)) }
+    ensures kept { OnOk result (failures_of out.new ≡ failures_of out.old) }
+    ensures failed { IfErr result (λ kind. IsWriteFault kind out.old out.new) }
 {
     let Ok(text) = rows_text(alloc, number, shares) else {
         return Err(FaultKind::Memory);
@@ -52,6 +54,8 @@ fn write_answer<W: Write, E: Write>(
     ensures tells { OnOk result (TellsAnswer W.contents out.old out.new E.contents err.old err.new number answer) }
     ensures rows { IfOk result (λ rows. rows ≡ is_ok answer) }
     ensures quiet { result ≡ Ok true → err.new ≡ err.old }
+    ensures kept { OnOk result (failures_of out.new ≡ failures_of out.old) }
+    ensures failed { IfErr result (λ kind. IsWriteFault kind out.old out.new × (err.new ≡ err.old)) }
 {
     match answer {
         Ok(shares) => {
@@ -77,7 +81,7 @@ pub fn list_credits<S: Alter, R: Read, W: Write, E: Write>(
     err: &mut Counted<E>,
 ) -> Result<Result<bool, DeskFault>, RowFault>
     ensures looks { Within S.Store tx.old tx.new Looks result
-        (λ db listed. IfOk listed (ListsCredits office.now R.remaining W.contents E.contents reader.old reader.new out.old out.new err.old err.new db)) }
+        (EndsListing office.now R.remaining W.contents E.contents reader.old reader.new out.old out.new err.old err.new) }
     ensures quiet { IfOk result (λ listed. listed ≡ Ok true → err.new ≡ err.old) }
 {
     let (Ok(columns), Ok(mut input)) = (columns_text(alloc), Input::new(alloc, READS)) else {
@@ -95,7 +99,7 @@ pub fn list_credits<S: Alter, R: Read, W: Write, E: Write>(
         };
         let answer = answer_line(alloc, tx, office, &input.unread()[..length])?;
         match write_answer(alloc, done + 1, answer, out, err) {
-            Ok(rows) => all = all && rows,
+            Ok(rows) => all &= rows,
             Err(kind) => return Ok(Err(broken(kind, done))),
         }
         input.take(length);
@@ -104,7 +108,9 @@ pub fn list_credits<S: Alter, R: Read, W: Write, E: Write>(
 }
 
 // That a listing broke off after so many orders.
-fn broken(kind: FaultKind, orders: u64) -> DeskFault {
+fn broken(kind: FaultKind, orders: u64) -> DeskFault
+    ensures { (result.kind ≡ kind) × (result.requests ≡ orders) }
+{
     DeskFault {
         kind,
         requests: u128::from(orders),

@@ -4,8 +4,9 @@ use Rattle.std.specs.List.{AllByRecursion}
 use Rattle.std.specs.declared.net.socket_addr.SocketAddrV4.{SocketAddrV4}
 use Rattle.http_desk.specs.Serves.{AreAnswered}
 use Rattle.http_desk.specs.declared.counted.Counted.{Counted}
+use Rattle.http_desk.specs.declared.fault.DeskFault.{DeskFault}
 use Rattle.share_rules.specs.declared.office.Office.{Office}
-use Rattle.credit_listing.specs.Answered.{ListsCredits}
+use Rattle.credit_listing.specs.Answered.{BreaksListing, EndsListing, ListsCredits}
 use Rattle.sqlite.specs.Files.{file_state}
 use Rattle.sqlite.specs.Held.{Held, IsNew}
 use Rattle.sqlite.specs.State as connection
@@ -18,13 +19,14 @@ use Rattle.society_rows.specs.Effects.{MayFail}
 use Rattle.society_rows.specs.Layouts.{HasOlder}
 use Rattle.society_rows.specs.NewBook.{IsBare}
 use Rattle.society_rows.specs.Stored.{HasLayout}
+use Rattle.society_rows.specs.declared.fault.RowFault.{RowFault}
 use Rattle.society_rows.specs.declared.older.OlderLayout.{OlderLayout}
 use Rattle.society_book.specs.BookRows.{book_of}
 use Rattle.society_opening.specs.Existing.{FindsSoundly, IsSoundIn, SurvivesTaking, WhenOpen}
 use Rattle.society_opening.specs.Older.{HoldsOne, Takes}
-use Rattle.society_opening.specs.Opening.{HasAnyLayout, IsOpenable, ShowsAs, SurvivesOpening, TellsDatabase}
+use Rattle.society_opening.specs.Opening.{HasAnyLayout, IsOpenable, ShowsAs, SurvivesOpening, TellsDatabase, open_fault_by}
 use Rattle.society_opening.specs.declared.open_fault.OpenFault.{OpenFault}
-use Rattle.society_opening.specs.declared.open_fault.OpenFault.TheVariants.{Empty, Store}
+use Rattle.society_opening.specs.declared.open_fault.OpenFault.TheVariants.{Empty, Schema, Store}
 use Rattle.society_arguments.specs.declared.words.Listening.{Listening}
 use Rattle.society_commands.specs.Closing.{HandsBack}
 use Rattle.desk_connections.specs.Connections.{IsCounted, Prints, ServesEach, connection_lines, parts_brought, replies_given}
@@ -36,7 +38,8 @@ use Rattle.society_commands.specs.declared.listened.Listened.{Listened}
 use Rattle.society_commands.specs.declared.listened.Listened.TheVariants as heard
 use Rattle.society_commands.specs.declared.opening.Job.{Job}
 use Rattle.society_commands.specs.declared.trouble.Trouble.{Trouble}
-use Rattle.society_commands.specs.declared.trouble.Trouble.TheVariants.{Database, NoConnection, NoListener}
+use Rattle.society_commands.specs.declared.trouble.Trouble.TheVariants.{Database, NoConnection, NoListener, Orders}
+use Rattle.society_commands.specs.Troubles.{Tells, Warns}
 use Rattle.society_arguments.specs.Words.{Asked, AsksAudit, AsksCredit, AsksReplay, AsksServe, Serving, serving_of}
 
 -- what is served by a job at an office
@@ -171,7 +174,7 @@ FindsUnsound {F = F} {g = g} opens opener path office out new_out Told ToldOpene
     × (new_out ≡ out)
 
 -- readings leave a connection at rest as it was: what was committed is shown still, and a crash leaves what it left before
-pub record KeepsShown (old new : connection.State) : Type 0 where
+pub record ShowsStill (old new : connection.State) : Type 0 where
   pub was_open : connection.HasCleanDisk new → IsTrue new.is_open → IsTrue old.is_open
   pub shown : connection.HasCleanDisk new → IsTrue new.is_open → (new.now ≡ old.committed) × (new.committed ≡ old.committed)
   pub crash : connection.Survives old new (λ db. ⊥)
@@ -181,9 +184,9 @@ abbrev pub ListsOver : connection.State → connection.State → (Trees → Type
 ListsOver old new Lists = connection.HasCleanDisk new → HasLayout old.now → Lists old.now.trees
 
 -- all that a reader gave was listed by tables, and each line was answered by rows
-abbrev pub ListsAll : {R W : Type 0} → (E : Type 0) → (E → Option (List ℕ)) → Office → (R → Option (List ℕ)) → (W → Option (List ℕ)) → Counted R → Counted R
+abbrev pub ListsEach : {R W : Type 0} → (E : Type 0) → (E → Option (List ℕ)) → Office → (R → Option (List ℕ)) → (W → Option (List ℕ)) → Counted R → Counted R
     → Counted W → Counted W → Trees → Type 0
-ListsAll E says office remaining contents reader new_reader out new_out db =
+ListsEach E says office remaining contents reader new_reader out new_out db =
     (err : Counted E) × (new_err : Counted E) × ListsCredits office remaining contents says reader new_reader out new_out err new_err db true
 
 -- What telling of orders leaves of a database that a connection was found with: what was committed is shown still, and a crash leaves what it
@@ -200,10 +203,45 @@ CreditsOpened {F = F} {g = g} opens path office status Lists rest =
     (conn : Held (FileStore F g)) × IsOpenedAt opens path true conn
     × ((ended : Held (FileStore F g)) × CreditsOver office (file_state conn) (file_state ended) status Lists × (rest ≡ left.Connection ended))
 
--- no database was opened at a path to tell of orders, and this was told, and nothing written; or one was, and not all was done
-abbrev pub StopsCrediting : {O F W : Type 0} {g : disk.Ghosts F} → Opens O F → O → List ℕ → Office → Counted W → Counted W → (Trouble → Type 0) → Left F O g → Type 0
-StopsCrediting opens opener path office out new_out Told rest =
-    ((fault : OpenFault) × LeavesRefused opens opener path true fault rest × Told (Database fault) × (new_out ≡ out)) ⊎ CreditsOpened opens path office 1 (λ db. ⊤) rest
+-- Not all that a reader gave was answered by rows, by tables: a line was refused, which was told; or the listing broke off at a fault, and that
+-- was told behind what was.
+abbrev pub ListsSome : {R W E : Type 0} → Office → (R → Option (List ℕ)) → (W → Option (List ℕ)) → (E → Option (List ℕ)) → Counted R → Counted R → Counted W → Counted W
+    → Counted E → Counted E → Trees → Type 0
+ListsSome {E = E} office remaining contents says reader new_reader out new_out err new_err db =
+    ListsCredits office remaining contents says reader new_reader out new_out err new_err db false
+    ⊎ ((fault : DeskFault) × (between : Counted E) × BreaksListing office remaining contents says reader new_reader out new_out err between db fault
+    × Tells says between new_err (Orders fault))
+
+-- why not all orders were answered by rows over tables of which this is known: they are of another layout, which was told, and nothing was read or
+-- written; or a row could not be had, which was told last; or not all that was listed were
+abbrev pub StopsListing : {R W E : Type 0} → ((Trees → Type 0) → Type 0) → Office → (R → Option (List ℕ)) → (W → Option (List ℕ)) → (E → Option (List ℕ)) → Counted R → Counted R
+    → Counted W → Counted W → Counted E → Counted E → Type 0
+StopsListing {E = E} Over office remaining contents says reader new_reader out new_out err new_err =
+    ((new_reader ≡ reader) × (new_out ≡ out) × Tells says err new_err (Database Schema))
+    ⊎ (((fault : RowFault) × (between : Counted E) × Tells says between new_err (Database (open_fault_by fault)))
+    ⊎ Over (ListsSome office remaining contents says reader new_reader out new_out err new_err))
+
+-- what a listing that was done over what a connection was found with says of its tables
+abbrev pub OverFound : connection.State → connection.State → (Trees → Type 0) → Type 0
+OverFound found left Lists = WhenOpen found left (IsTrue left.is_open → Lists found.committed.trees)
+
+-- why not all orders were answered by rows over a database: it is not the office's or not sound, which was told, and nothing was read or written;
+-- or a listing stopped
+abbrev pub StopsOver : {R W E : Type 0} → Office → connection.State → connection.State → (R → Option (List ℕ)) → (W → Option (List ℕ)) → (E → Option (List ℕ)) → Counted R → Counted R
+    → Counted W → Counted W → Counted E → Counted E → Type 0
+StopsOver office found left remaining contents says reader new_reader out new_out err new_err =
+    (TellsUnsound office found left (Tells says err new_err) × (new_reader ≡ reader) × (new_out ≡ out))
+    ⊎ StopsListing (OverFound found left) office remaining contents says reader new_reader out new_out err new_err
+
+-- no database was opened at a path to tell of orders, this was told, and nothing was read or written; or one was, it is left as it was, and not all
+-- was done
+abbrev pub StopsCrediting : {O F R W E : Type 0} {g : disk.Ghosts F} → Opens O F → O → List ℕ → Office → (R → Option (List ℕ)) → (W → Option (List ℕ)) → (E → Option (List ℕ))
+    → Counted R → Counted R → Counted W → Counted W → Counted E → Counted E → Left F O g → Type 0
+StopsCrediting {F = F} {E = E} {g = g} opens opener path office remaining contents says reader new_reader out new_out err new_err rest =
+    ((fault : OpenFault) × LeavesRefused opens opener path true fault rest × Tells says err new_err (Database fault) × (new_reader ≡ reader) × (new_out ≡ out))
+    ⊎ ((between : Counted E) × Warns opens says err between path × (conn : Held (FileStore F g)) × IsOpenedAt opens path true conn
+    × ((ended : Held (FileStore F g)) × CreditsOver office (file_state conn) (file_state ended) 1 (λ db. ⊤)
+    × StopsOver office (file_state conn) (file_state ended) remaining contents says reader new_reader out new_out between new_err × (rest ≡ left.Connection ended)))
 
 -- so many connections were served over a store that was opened over what a connection was found with, and this is the store behind them
 abbrev pub ServesDatabase : {N D R V S W : Type 0} → Network N D R V → (S → State) → Office → Bool → connection.State → S → (W → Option (List ℕ))

@@ -1,11 +1,11 @@
 //! What orders would credit over a database, told without a word to it.
 ghost use Rattle.std.specs.Prelude.{◌≡◌, ◌⊎◌, IfOk, Ok, false, true};
-ghost use Rattle.credit_listing.specs.Answered.{ListsCredits};
+ghost use Rattle.credit_listing.specs.Answered.{EndsListing};
 ghost use Rattle.sqlite.specs.Held.{state};
 ghost use Rattle.sqlite.specs.State.{HasCleanDisk};
 ghost use Rattle.society_rows.specs.Between.{between};
-ghost use Rattle.society_commands.specs.Connections.{CreditsOpened, CreditsOver, KeepsShown, ListsAll, ListsOver, StopsCrediting};
-ghost use Rattle.society_commands.specs.Troubles.{Tells, TellsDone};
+ghost use Rattle.society_commands.specs.Connections.{CreditsOpened, CreditsOver, ShowsStill, ListsEach, ListsOver, StopsCrediting, StopsListing, StopsOver};
+ghost use Rattle.society_commands.specs.Troubles.{TellsDone};
 
 use crate::left::Left;
 use crate::machine::OpenDatabase;
@@ -37,8 +37,9 @@ pub fn credit_file<O: OpenDatabase, R: Read, W: Write, E: Write>(
     ensures status { (result.0 ≡ 0) ⊎ (result.0 ≡ 1) }
     ensures quiet { result.0 ≡ 0 → TellsDone O.OpenDatabase E.contents err.old err.new path.now result.1 }
     ensures credited { result.0 ≡ 0 → CreditsOpened O.OpenDatabase path.now office.now 0
-        (ListsAll _ E.contents office.now R.remaining W.contents reader.old reader.new out.old out.new) result.1 }
-    ensures stopped { result.0 ≡ 1 → StopsCrediting O.OpenDatabase opener path.now office.now out.old out.new (Tells E.contents err.old err.new) result.1 }
+        (ListsEach _ E.contents office.now R.remaining W.contents reader.old reader.new out.old out.new) result.1 }
+    ensures stopped { result.0 ≡ 1 → StopsCrediting O.OpenDatabase opener path.now office.now R.remaining W.contents E.contents
+        reader.old reader.new out.old out.new err.old err.new result.1 }
 {
     let database = Database {
         path,
@@ -66,7 +67,9 @@ fn credit_database<M: Alter, R: Read, W: Write, E: Write>(
     ensures status { (result.0 ≡ 0) ⊎ (result.0 ≡ 1) }
     ensures quiet { result.0 ≡ 0 → err.new ≡ err.old }
     ensures credits { CreditsOver office.now (state M.Store connection) (state M.Store result.1) result.0
-        (ListsAll _ E.contents office.now R.remaining W.contents reader.old reader.new out.old out.new) }
+        (ListsEach _ E.contents office.now R.remaining W.contents reader.old reader.new out.old out.new) }
+    ensures stopped { result.0 ≡ 1 → StopsOver office.now (state M.Store connection) (state M.Store result.1) R.remaining W.contents E.contents
+        reader.old reader.new out.old out.new err.old err.new }
 {
     match audit_existing(alloc, connection, office) {
         Ok(connection) => {
@@ -90,8 +93,10 @@ fn credit_tables<M: Alter, R: Read, W: Write, E: Write>(
     ensures status { (result ≡ 0) ⊎ (result ≡ 1) }
     ensures quiet { result ≡ 0 → err.new ≡ err.old }
     ensures listed { result ≡ 0 → HasCleanDisk (state M.Store conn.new)
-        → ListsAll _ E.contents office.now R.remaining W.contents reader.old reader.new out.old out.new (state M.Store conn.old).now.trees }
-    ensures kept { between M.Store conn.old conn.new KeepsShown }
+        → ListsEach _ E.contents office.now R.remaining W.contents reader.old reader.new out.old out.new (state M.Store conn.old).now.trees }
+    ensures stopped { result ≡ 1 → StopsListing (λ Lists. HasCleanDisk (state M.Store conn.new) → Lists (state M.Store conn.old).now.trees)
+        office.now R.remaining W.contents E.contents reader.old reader.new out.old out.new err.old err.new }
+    ensures kept { between M.Store conn.old conn.new ShowsStill }
 {
     let Found::Layout = layout_found(conn) else {
         conn.see_last_commit();
@@ -108,6 +113,7 @@ fn credit_tables<M: Alter, R: Read, W: Write, E: Write>(
 fn status_of(all: bool) -> u8
     ensures status { (result ≡ 0) ⊎ (result ≡ 1) }
     ensures all { result ≡ 0 → all ≡ true }
+    ensures some { result ≡ 1 → all ≡ false }
 {
     if all { SERVED } else { BROKEN_OFF }
 }
@@ -122,9 +128,9 @@ fn credits_listed<M: Alter, R: Read, W: Write, E: Write>(
     err: &mut Counted<E>,
 ) -> Result<Result<bool, DeskFault>, RowFault>
     ensures quiet { IfOk result (λ listed. listed ≡ Ok true → err.new ≡ err.old) }
-    ensures listed { IfOk result (λ listed. IfOk listed (λ all. ListsOver (state M.Store conn.old) (state M.Store conn.new)
-        (λ db. ListsCredits office.now R.remaining W.contents E.contents reader.old reader.new out.old out.new err.old err.new db all))) }
-    ensures kept { between M.Store conn.old conn.new KeepsShown }
+    ensures listed { IfOk result (λ listed. ListsOver (state M.Store conn.old) (state M.Store conn.new)
+        (λ db. EndsListing office.now R.remaining W.contents E.contents reader.old reader.new out.old out.new err.old err.new db listed)) }
+    ensures kept { between M.Store conn.old conn.new ShowsStill }
 {
     let mut tx = conn.connection.transaction();
     let listed = list_credits(alloc, &mut tx, office, reader, out, err);

@@ -4,7 +4,7 @@ ghost use Rattle.std.specs.IoError.{error_kind};
 ghost use Rattle.clap.specs.Words.{kind_of};
 ghost use Rattle.clap.specs.declared.error.kind.ErrorKind.TheVariants.{DisplayHelp, OutOfMemory};
 ghost use Rattle.http_desk.specs.Serves.{KeepsTurns, NeitherFails};
-ghost use Rattle.society_commands.specs.Connections.{CreditsOpened, ListsAll, FindsSound, FindsUnsound, ServesOpened, StopsCrediting, StopsServingOpened, IsUnheard, IsUnused, ListensNowhere, ReadsNothing, UsesNothing};
+ghost use Rattle.society_commands.specs.Connections.{CreditsOpened, ListsEach, FindsSound, FindsUnsound, ServesOpened, StopsCrediting, StopsServingOpened, IsUnheard, IsUnused, ListensNowhere, ReadsNothing, UsesNothing};
 ghost use Rattle.society_commands.specs.Replays.{Replays, BreaksOff};
 ghost use Rattle.desk_connections.specs.Faults.{most_turns};
 ghost use Rattle.society_commands.specs.Refusals.{status_after, no_words_by, status_without};
@@ -90,9 +90,9 @@ pub fn start<N: Listen, O: OpenDatabase, R: Read, W: Write, E: Write>(
         FindsUnsound O.OpenDatabase opener path office out.old out.new (Tells E.contents err.old err.new)
         (TellsOpened O.OpenDatabase E.contents err.old err.new path) result.1) }
     ensures credited { EndsCredit (asks words.now) 0 result.0 (λ path office. CreditsOpened O.OpenDatabase path office 0
-        (ListsAll _ E.contents office R.remaining W.contents reader.old reader.new out.old out.new) result.1) }
+        (ListsEach _ E.contents office R.remaining W.contents reader.old reader.new out.old out.new) result.1) }
     ensures uncredited { EndsCredit (asks words.now) 1 result.0 (λ path office.
-        StopsCrediting O.OpenDatabase opener path office out.old out.new (Tells E.contents err.old err.new) result.1) }
+        StopsCrediting O.OpenDatabase opener path office R.remaining W.contents E.contents reader.old reader.new out.old out.new err.old err.new result.1) }
 {
     match words_in(alloc, words) {
         Ok(Words::Replay(office)) => {

@@ -1,19 +1,21 @@
 -- Lines are found where their line feeds are, and are what came.
-use Rattle.std.proofs.Common.{◌≡◌, ◌∙◌, ◌+◌, ◌-◌, ◌<◌, ◌≤◌, ℕ, List, [], ◌∷◌, ◌++◌, ⊎_elim, ap, append_assoc, append-nil, arith, drop, length, refl, subst, sym, take, true}
+use Rattle.std.proofs.Common.{◌≡◌, ◌∙◌, ◌+◌, ◌-◌, ◌<◌, ◌≤◌, ℕ, List, [], ◌∷◌, ◌++◌, ⊎_elim, ap, append_assoc, append-nil, arith, drop, Err, length, Ok, refl, Result, subst, sym, take, true}
 use Rattle.std.proofs.Math.ListN.{get_or-append}
 use Rattle.std.proofs.lemmas.Bool.{cases_lt}
 use Rattle.std.proofs.lemmas.Grind.{flat_map-append}
 use Rattle.std.proofs.lemmas.List.{get_or-drop, get_or-take, length-drop, length-take-le, take-append-drop, take_all}
 use Rattle.std.specs.Io.KnownBytes.{Consumes, IsAtEnd}
-use Rattle.std.specs.Prelude.{slice_index}
+use Rattle.std.specs.Prelude.{IfErr, slice_index}
+use Rattle.std.specs.Result.{IsErrAnd}
 use Rattle.http_desk.proofs.lemmas.Known.{Consumes-join, Consumes-none}
 use Rattle.http_desk.specs.Counted.{Known, bytes_known}
 use Rattle.http_desk.specs.Input.{all_of, unread}
 use Rattle.http_desk.specs.declared.counted.Counted.{Counted}
+use Rattle.http_desk.specs.declared.fault.FaultKind.{FaultKind}
 use Rattle.http_desk.specs.declared.input.Input.{Input}
 use Rattle.memchr.specs.Find.{Nowhere, Passes, is_byte}
 use Rattle.sqlite_trees.proofs.ListLemmas.{all-append}
-use Rattle.credit_listing.specs.Lines.{AreRead, AreTaken, Comes, IsLine, NoFeed}
+use Rattle.credit_listing.specs.Lines.{AreRead, AreTaken, ComesBehind, IsLine, IsReadFault, NoFeed}
 
 -- ---- where the line feeds are
 
@@ -54,22 +56,30 @@ last_line bytes count is none at below found =
 pub still_none : (bytes more : List ℕ) (count : ℕ) → count ≤ length bytes → NoFeed bytes count → NoFeed (bytes ++ more) count
 still_none bytes more count within none at below found = none at below (sym (get_or-append bytes more 0 at (omega (arith, within, below))) ∙ found)
 
+-- ---- what did not
+
+-- why no line could be read is what is told
+pub told_so : {X : Type 0} (kind : FaultKind) (r : Result X FaultKind) (failures new_failures : ℕ) → IsReadFault kind failures new_failures → IsErrAnd r (λ e. e ≡ kind)
+    → IfErr r (λ e. IsReadFault e failures new_failures)
+told_so kind (Ok x) failures new_failures is told = tt
+told_so kind (Err e) failures new_failures is told = subst (λ (k : FaultKind). IsReadFault k failures new_failures) (sym told) is
+
 -- ---- what came
 
 module _ {R : Type 0} (remaining : Known R) where
-  pub comes_on : (reader mid new_reader : Counted R) (input between new_input : Input) → Comes remaining reader mid input between → Comes remaining mid new_reader between new_input
-      → Comes remaining reader new_reader input new_input
+  pub comes_on : (reader mid new_reader : Counted R) (input between new_input : Input) → ComesBehind remaining reader mid input between → ComesBehind remaining mid new_reader between new_input
+      → ComesBehind remaining reader new_reader input new_input
   comes_on reader mid new_reader input between new_input first then = (
     first.0 ++ then.0,
     then.1 ∙ ap (λ (b : List ℕ). b ++ then.0) first.1 ∙ append_assoc (unread input) first.0 then.0,
     Consumes-join (bytes_known remaining reader) (bytes_known remaining mid) (bytes_known remaining new_reader) first.0 then.0 first.2 then.2,
   )
 
-  pub comes_none : (reader : Counted R) (input : Input) → Comes remaining reader reader input input
+  pub comes_none : (reader : Counted R) (input : Input) → ComesBehind remaining reader reader input input
   comes_none reader input = ([], sym (append-nil (unread input)), Consumes-none (bytes_known remaining reader))
 
   -- a line was read and taken
-  pub taken_line : (reader mid new_reader : Counted R) (input between new_input : Input) (lines : List (List ℕ)) (count : ℕ) → AreTaken remaining reader mid input lines → Comes remaining mid new_reader input between
+  pub taken_line : (reader mid new_reader : Counted R) (input between new_input : Input) (lines : List (List ℕ)) (count : ℕ) → AreTaken remaining reader mid input lines → ComesBehind remaining mid new_reader input between
       → IsLine (take count (unread between)) → unread new_input ≡ drop count (unread between) → AreTaken remaining reader new_reader new_input (lines ++ take count (unread between) ∷ [])
   taken_line reader mid new_reader input between new_input lines count taken comes line rest = record {
     each = all-append IsLine lines (take count (unread between) ∷ []) taken.each (line, tt);
@@ -91,7 +101,7 @@ module _ {R : Type 0} (remaining : Known R) where
   taken_none reader input empty = record { each = tt; all = subst (Consumes (bytes_known remaining reader) (bytes_known remaining reader)) (sym empty) (Consumes-none (bytes_known remaining reader)) }
 
   -- all of them
-  pub all_read : (reader mid new_reader : Counted R) (input new_input : Input) (lines : List (List ℕ)) → AreTaken remaining reader mid input lines → Comes remaining mid new_reader input new_input
+  pub all_read : (reader mid new_reader : Counted R) (input new_input : Input) (lines : List (List ℕ)) → AreTaken remaining reader mid input lines → ComesBehind remaining mid new_reader input new_input
       → unread new_input ≡ [] → IsAtEnd (bytes_known remaining new_reader) → AreRead remaining reader new_reader lines
   all_read reader mid new_reader input new_input lines taken comes empty ended = record {
     each = taken.each;

@@ -1,6 +1,7 @@
 -- What telling of orders leaves of a database.
-use Rattle.std.proofs.Common.{◌≡◌, ◌∙◌, ℕ, Bool, Err, IsTrue, Ok, Result, arith, refl, subst, true}
+use Rattle.std.proofs.Common.{◌≡◌, ◌∙◌, ℕ, Bool, Err, IsTrue, List, Ok, Option, Result, arith, inl, inr, refl, subst, true}
 use Rattle.std.specs.Prelude.{⊤, IfOk}
+use Rattle.http_desk.specs.declared.counted.Counted.{Counted}
 use Rattle.http_desk.specs.declared.fault.DeskFault.{DeskFault}
 use Rattle.share_rules.specs.declared.office.Office.{Office}
 use Rattle.sqlite.proofs.Callers.{survives_begin}
@@ -15,11 +16,11 @@ use Rattle.society_rows.specs.declared.fault.RowFault.{RowFault}
 use Rattle.society_book.proofs.lemmas.together.StepLemmas.{still}
 use Rattle.society_book.specs.Steps.{Looks}
 use Rattle.society_opening.specs.Existing.{FindsSoundly}
-use Rattle.society_commands.specs.Connections.{CreditsOver, KeepsShown, ListsOver}
+use Rattle.society_commands.specs.Connections.{CreditsOver, ShowsStill, ListsOver, OverFound, StopsListing}
 
 -- readings in a transaction that was rolled back
 pub kept_by : {S : Type 0} (g : Ghosts S) {X : Type 0} (old : Held S) (mid new : State) (result : Result X RowFault) (Found : Trees → X → Type 0)
-    → Looks (state g (record old { in_transaction = true })) mid result Found → (HasCleanDisk new → IsRolledBack mid new) → Survives mid new (λ _. ⊥) → KeepsShown (state g old) new
+    → Looks (state g (record old { in_transaction = true })) mid result Found → (HasCleanDisk new → IsRolledBack mid new) → Survives mid new (λ _. ⊥) → ShowsStill (state g old) new
 kept_by g old mid new result Found looks rolled survives = record {
   was_open = λ clean opened. (looks.kept (early clean) refl).was_open ((rolled clean).was_open opened);
   shown = λ clean opened.
@@ -33,25 +34,20 @@ kept_by g old mid new result Found looks rolled survives = record {
     early clean = (let fell = survives.clean in omega (clean, fell, arith))
 
 -- what those readings found
-pub listed_by : {S : Type 0} (g : Ghosts S) (old : Held S) (mid new : State) (result : Result (Result Bool DeskFault) RowFault) (Found : Trees → Result Bool DeskFault → Type 0) (Lists : Trees → Bool → Type 0)
-    → Looks (state g (record old { in_transaction = true })) mid result Found → Survives mid new (λ _. ⊥) → ((db : Trees) (listed : Result Bool DeskFault) → Found db listed → IfOk listed (Lists db))
-    → IfOk result (λ listed. IfOk listed (λ all. ListsOver (state g old) new (λ db. Lists db all)))
-listed_by g old mid new result Found Lists looks survives gives = under result (λ clean has. looks.says (early clean) refl has)
+pub listed_by : {S : Type 0} (g : Ghosts S) (old : Held S) (mid new : State) (result : Result (Result Bool DeskFault) RowFault) (Lists : Trees → Result Bool DeskFault → Type 0)
+    → Looks (state g (record old { in_transaction = true })) mid result Lists → Survives mid new (λ _. ⊥) → IfOk result (λ listed. ListsOver (state g old) new (λ db. Lists db listed))
+listed_by g old mid new result Lists looks survives = under result (λ clean has. looks.says (early clean) refl has)
   where
     early : HasCleanDisk new → HasCleanDisk mid
     early clean = (let fell = survives.clean in omega (clean, fell, arith))
 
-    inner : (listed : Result Bool DeskFault) → (HasCleanDisk new → HasLayout (state g old).now → IfOk listed (Lists (state g old).now.trees)) → IfOk listed (λ all. ListsOver (state g old) new (λ db. Lists db all))
-    inner (Ok all) says = λ clean has. says clean has
-    inner (Err fault) says = tt
-
-    under : (r : Result (Result Bool DeskFault) RowFault) → (HasCleanDisk new → HasLayout (state g old).now → IfOk r (λ listed. (mid.now ≡ (state g old).now) × Found (state g old).now.trees listed))
-        → IfOk r (λ listed. IfOk listed (λ all. ListsOver (state g old) new (λ db. Lists db all)))
-    under (Ok listed) says = inner listed (λ clean has. gives (state g old).now.trees listed (says clean has).1)
+    under : (r : Result (Result Bool DeskFault) RowFault) → (HasCleanDisk new → HasLayout (state g old).now → IfOk r (λ listed. (mid.now ≡ (state g old).now) × Lists (state g old).now.trees listed))
+        → IfOk r (λ listed. ListsOver (state g old) new (λ db. Lists db listed))
+    under (Ok listed) says = λ clean has. (says clean has).1
     under (Err fault) says = tt
 
 -- behind an audit that found a sound book
-pub audited_then : (office : Office) (old mid new : State) (status : ℕ) (Lists : Trees → Type 0) → FindsSoundly office old mid → Survives old mid (λ _. ⊥) → KeepsShown mid new
+pub audited_then : (office : Office) (old mid new : State) (status : ℕ) (Lists : Trees → Type 0) → FindsSoundly office old mid → Survives old mid (λ _. ⊥) → ShowsStill mid new
     → (status ≡ 0 → HasCleanDisk new → Lists mid.now.trees) → CreditsOver office old new status Lists
 audited_then office old mid new status Lists sound first kept lists = record {
   shown = λ clean opened again.
@@ -69,9 +65,27 @@ audited_then office old mid new status Lists sound first kept lists = record {
     early clean = (let fell = kept.crash.clean in omega (clean, fell, arith))
 
 -- nothing was done to a connection at rest
-pub kept_still : (s : State) → (IsTrue s.is_open → s.now ≡ s.committed) → KeepsShown s s
+pub kept_still : (s : State) → (IsTrue s.is_open → s.now ≡ s.committed) → ShowsStill s s
 kept_still s settled = record { was_open = λ clean opened. opened; shown = λ clean opened. (settled opened, refl); crash = still s }
 
 -- where not all were answered, nothing is said of what was listed
 pub over_any : (office : Office) (old new : State) (Lists : Trees → Type 0) → CreditsOver office old new 1 Lists → CreditsOver office old new 1 (λ db. ⊤)
 over_any office old new Lists over = record { shown = over.shown; sound = over.sound; listed = λ _ _ _ _. tt; crash = over.crash }
+
+-- what was listed by tables that were audited is so of those that were found
+pub over_found : (office : Office) (old mid new : State) → FindsSoundly office old mid → ShowsStill mid new → (Lists : Trees → Type 0) → (HasCleanDisk new → Lists mid.now.trees)
+    → OverFound old new Lists
+over_found office old mid new sound kept Lists lists = λ clean opened again.
+    let shows = (sound (early clean) opened).1 (kept.was_open clean again) in
+    subst (λ (db : Database). Lists db.trees) shows.0 (lists clean)
+  where
+    early : HasCleanDisk new → HasCleanDisk mid
+    early clean = (let fell = kept.crash.clean in omega (clean, fell, arith))
+
+-- and so is why a listing stopped
+pub stops_found : {R W E : Type 0} (Over OverNow : (Trees → Type 0) → Type 0) (office : Office) (remaining : R → Option (List ℕ)) (contents : W → Option (List ℕ)) (says : E → Option (List ℕ))
+    (reader new_reader : Counted R) (out new_out : Counted W) (err new_err : Counted E) → ((Lists : Trees → Type 0) → Over Lists → OverNow Lists)
+    → StopsListing Over office remaining contents says reader new_reader out new_out err new_err → StopsListing OverNow office remaining contents says reader new_reader out new_out err new_err
+stops_found Over OverNow office remaining contents says reader new_reader out new_out err new_err lifts (inl other) = inl other
+stops_found Over OverNow office remaining contents says reader new_reader out new_out err new_err lifts (inr (inl row)) = inr (inl row)
+stops_found Over OverNow office remaining contents says reader new_reader out new_out err new_err lifts (inr (inr some)) = inr (inr (lifts _ some))

@@ -2,8 +2,9 @@ use Rattle.std.proofs.Common.{◌≡◌, ◌≤◌, ◌∙◌, List, None, Some,
 use Rattle.std.proofs.lemmas.List.{length-drop}
 use Rattle.http_desk.specs.Input.{unread}
 use Rattle.memchr.specs.Find.{IsFirstByte, is_byte}
-use Rattle.credit_listing.specs.Lines.{NoFeed}
-use Rattle.credit_listing.proofs.lemmas.FeedLemmas.{comes_on, found_line, last_line, rest_is, searched, still_none}
+use Rattle.http_desk.specs.Counted.{failures_of}
+use Rattle.credit_listing.specs.Lines.{IsReadFault, NoFeed}
+use Rattle.credit_listing.proofs.lemmas.FeedLemmas.{comes_on, found_line, last_line, rest_is, searched, still_none, told_so}
 use Rattle.credit_listing.proofs.lines.next_line.Goals as goal
 
 pub returns-in-Some-clause-line : goal.returns-in-Some-clause-line
@@ -38,5 +39,11 @@ loop-preserved g c =
     record {
       within = c.in_ok-read_on.ensures.more;
       none = subst (λ (u : List ℕ). NoFeed u count) (sym came.1) (still_none bytes came.0 count all none);
+      reads = c.in_ok-read_on.ensures.kept ∙ c.loop.invariant.reads;
       came = comes_on g.R.Read.remaining c.args.reader.now c.loop.reader c.read_on.new.reader c.args.input.now c.loop.input c.read_on.new.input c.loop.invariant.came came;
     }
+
+pub returns-in_err-read_on-clause-failed : goal.returns-in_err-read_on-clause-failed
+returns-in_err-read_on-clause-failed g c =
+    told_so c.in_err-read_on.field-0.0 c.from_residual.result (failures_of c.args.reader.now) (failures_of c.read_on.new.reader)
+    (subst (λ (n : ℕ). IsReadFault c.in_err-read_on.field-0.0 n (failures_of c.read_on.new.reader)) c.loop.invariant.reads c.in_err-read_on.ensures.failed) c.from_residual.ensures.1
