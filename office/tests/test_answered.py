@@ -2,6 +2,7 @@
 
 import dataclasses
 import json
+import pathlib
 
 import pytest
 from ledger import EMPTY, Order, opened
@@ -39,6 +40,18 @@ class Answering:
         if kind == "pools":
             return answer(200, {}) if int(rest) in self.pools else answer(404, {"error": "unknown"})
         return answer(200, {"units": self.balances.get(rest, 0)})
+
+
+@dataclasses.dataclass
+class Alike:
+    """An office that gives one answer to all."""
+
+    given: Answer
+    address: str = "http://127.0.0.1:1"
+
+    def ask(self, _: Request) -> Answer:
+        """It."""
+        return self.given
 
 
 def answer(status: int, body: object) -> Answer:
@@ -127,16 +140,28 @@ def test_a_refusal_is_one_of_an_office(status: int) -> None:
     assert closing.refused(office, answer(status, {"error": "reused"}), "order")
 
 
-@dataclasses.dataclass
-class Alike:
-    """An office that gives one answer to all."""
+@pytest.mark.parametrize("status", [500, 502, 503])
+def test_what_may_be_taken_later_is_no_refusal(status: int) -> None:
+    """An office that is busy has closed nothing, and closes it when it is asked again."""
+    _, office = of_office()
+    with pytest.raises(OfficeError, match="whether it was closed is not known; run this again$"):
+        closing.refused(office, answer(status, {"error": "busy"}), "order")
 
-    given: Answer
-    address: str = "http://127.0.0.1:1"
 
-    def ask(self, _: Request) -> Answer:
-        """It."""
-        return self.given
+def test_where_an_own_return_is_refused_its_order_is_not_sent(tmp_path: pathlib.Path) -> None:
+    asked = []
+
+    class Office(Alike):
+        """One that refuses returns, and would close any pool."""
+
+        def ask(self, it: Request) -> Answer:
+            asked.append(it.path)
+            return answer(409, {"error": "reused"}) if it.path.startswith("returns/") else self.given
+
+    order = {"amount": 0, "cut": [[HOUSE, 1]], "returns": [["AMEND1", 99_998]]}
+    (tmp_path / "AMEND1-99998.csv").write_text("isrc,plays,seconds\n")
+    told_why = closing.send(Office(answer(201, {"state": "closed"})), Plan(json.dumps(order).encode(), order, 99_998), tmp_path)
+    assert told_why and asked == ["returns/AMEND1/99998"]
 
 
 HEAD = b"isrc,account,units\n"
