@@ -6,8 +6,8 @@ import pathlib
 
 import pytest
 from ledger import EMPTY, Order, opened
-from society_office import closing, closing_commands
-from society_office.answered import lacks, lost
+from society_office import closing, closing_commands, looking
+from society_office.answered import Lack, lacks, lost
 from society_office.asking import Request
 from society_office.closing import Plan
 from society_office.copy import Copy
@@ -100,6 +100,13 @@ def test_the_last_return_of_each_reporter_is_asked_for() -> None:
     copy, office = of_office()
     office.returns -= {"RADIO1/2"}
     assert [it.words for it in lost(copy, office)] == ["return RADIO1/2"]
+
+
+def test_how_much_an_office_lacks_is_counted_whole(copy: pathlib.Path, monkeypatch: pytest.MonkeyPatch) -> None:
+    lacking = [Lack("return", "RADIO1", it, f"return RADIO1/{it}") for it in range(1, 8)]
+    monkeypatch.setattr(looking, "lost_money", lambda *_: lacking)
+    found = looking.look_at_money(copy, of_office()[1])
+    assert (found.value, found.words.count("return RADIO1/")) == (7, 5)
 
 
 def test_a_balance_that_is_another_one_tells_of_a_pool() -> None:

@@ -350,6 +350,7 @@ def test_nothing_is_checked_at_the_office_itself(
         office = Office(f"http://127.0.0.1:{port}")
         assert office.ask("PUT", "/v1/returns/RADIO9/900001", b"").status == 422
         office.close()
-    monkeypatch.setattr(Other, "kind", "")
-    with other(monkeypatch, b'{"front":0,"held":[]}') as address:
-        assert "nothing was sent" in run("check", *files, "--office", address, status=1)
+    for kind in "", "office":
+        monkeypatch.setattr(Other, "kind", kind)
+        with other(monkeypatch, b'{"front":0,"held":[]}') as address:
+            assert "nothing was sent" in run("check", *files, "--office", address, status=1)

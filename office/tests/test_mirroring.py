@@ -7,6 +7,8 @@ import pytest
 from conftest import ROOT, running
 from odd_office import odd
 from society_office import mirroring
+from society_office.asking import Connections
+from society_office.copy import open_copy
 from society_office.errors import OfficeError
 from society_office.program import free_port
 from test_second_office import standing
@@ -52,6 +54,15 @@ def test_what_is_told_of_it_with_a_state(copy: pathlib.Path, program: str, tmp_p
         mirroring.make(tmp_path / "known", place)
         run("resend", copy, "--known", tmp_path / "known", "--state", tmp_path / "state", "--wait", 0, "--to", address, out=True)
         assert not place.exists()
+
+
+def test_nothing_is_known_before_it_was_asked(copy: pathlib.Path, tmp_path: pathlib.Path, monkeypatch: pytest.MonkeyPatch) -> None:
+    office, there = Connections("http://127.0.0.1:9", 0), list[bool]()
+    place = mirroring.place_of(tmp_path, office.address)
+    monkeypatch.setattr(mirroring, "is_of_same_society", lambda *_: there.append(place.exists()) or True)
+    with open_copy(copy) as opened, mirroring.told(tmp_path, opened, office):
+        there.append(place.exists())
+    assert there == [False, True]
 
 
 def test_an_address_leads_nowhere_else(tmp_path: pathlib.Path) -> None:
