@@ -14,7 +14,7 @@ from test_statements import run
 
 COMMANDS = (
     "adjust amend balances check close compare decisions dues explain file health ledger members parties pay propose rebuild rehearse "
-    "resend returned site statement unclaimed void why"
+    "resend returned site statement unclaimed void why works"
 )
 CAUSES = {"none": "nobody", "plays": "nobody", "share": "share", "conflict": "conflict"}
 
