@@ -678,12 +678,15 @@ def test_a_restore_that_is_killed_while_the_service_stops(copy: pathlib.Path, tm
     (tools / "systemctl").chmod(0o755)
     words = restore_words(copy, home, program, "--front", "3", "--port", free_port())
     done = subprocess.run(words, env=env, capture_output=True, text=True, timeout=100, check=False)
+    wanted = (["is-active", "stop", "reset-failed", "start"], "active\n")
+
+    def became() -> tuple[list[str], str]:
+        return (tools / "asked").read_text().split(), (tools / "state").read_text()
+
     until = time.monotonic() + 20
-    while "start" not in (tools / "asked").read_text().split() and time.monotonic() < until:
+    while became() != wanted and time.monotonic() < until:
         time.sleep(0.05)
-    assert done.returncode == -signal.SIGKILL
-    assert (tools / "asked").read_text().split() == ["is-active", "stop", "reset-failed", "start"]
-    assert (tools / "state").read_text() == "active\n"
+    assert (done.returncode, became()) == (-signal.SIGKILL, wanted)
 
 
 def test_nothing_is_restored_under_an_office(copy: pathlib.Path, tmp_path: pathlib.Path, program: str) -> None:
