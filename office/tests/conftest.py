@@ -25,12 +25,14 @@ TAKEN = {200, 201, 202}
 
 
 def program_under_test() -> str:
-    """The program: $SOCIETY_PROGRAM, else the one that bin/society of this checkout runs."""
+    """The program: $SOCIETY_PROGRAM, else the one that bin/society of this checkout runs; without one nothing is tried: to build it takes long."""
     if found := os.environ.get("SOCIETY_PROGRAM"):
         # (it is run from other folders too)
         return os.path.abspath(found)
     asked = subprocess.run([ROOT / "bin/program"], stdout=subprocess.PIPE, text=True, check=False)
-    return asked.stdout.strip() or str(ROOT / "bin/society")
+    if not (built := asked.stdout.strip()):
+        pytest.exit("no program is built of these sources: build it by bin/society --help, or name one by $SOCIETY_PROGRAM", 2)
+    return built
 
 
 def knows_credit(program: str) -> bool:
