@@ -25,7 +25,7 @@ TAKEN = {200, 201, 202}
 
 
 def program_under_test() -> str:
-    """The program: $SOCIETY_PROGRAM, else the one that bin/society of this checkout runs; without one nothing is tried: to build it takes long."""
+    """The program: $SOCIETY_PROGRAM, else the one that is built of this checkout; where none is, nothing is tried."""
     if found := os.environ.get("SOCIETY_PROGRAM"):
         # (it is run from other folders too)
         return os.path.abspath(found)
