@@ -113,9 +113,8 @@ def rows_in(text: TextIO) -> Iterator[tuple[int, Row]]:
 
 
 def closed(program: str, copy: Copy, number: int, order: Order, returned: Return, body: str) -> collections.Counter[tuple[str, str]]:
-    """What a pool credits by recording and account that the program closes over the files and returns of a copy, once a return was sent
-    there; an OfficeError where it takes one of them not."""
-    # (what a pool credits is by files and returns alone, and whether the credits of others are right was asked before)
+    """What a pool credits by recording and account that the program closes over a copy's files and returns, by which alone it credits, once
+    a return was sent there; an OfficeError where it takes one of them not."""
     with trial_of(program, copy, before_pools=True) as trial:
         answer = trial.office.ask("PUT", f"/v1/returns/{returned[0]}/{returned[1]}", body.encode())
         if not answer.is_taken:

@@ -229,8 +229,7 @@ class Dues:
 
 
 def need_within(dues: Dues, made: MakeUp, program: str, apart: bool) -> None:
-    """Has the program close a make-up over the files and returns of a throw-away copy; an OfficeError where its credits pass what is
-    lacking."""
+    """Has the program close a make-up over a throw-away copy's files and returns; an OfficeError where its credits pass what is lacking."""
     credits = closed(program, dues.copy, made.number, made.order, made.returned, made.body)
     if passed := dues.beyond(made, credits, apart):
         raise OfficeError(f"nothing was written, since the program would pay beyond what is due: {'; '.join(passed)}")
