@@ -1,19 +1,21 @@
 #!/usr/bin/env python3
-"""Whether docs/TOUR.md, docs/MAP.md and CONTRIBUTING.md speak of what is there.
+"""Whether docs/TOUR.md, docs/MAP.md, CONTRIBUTING.md and office/README.md speak of what is there.
 
     .ci/documents.py     a line for each thing that is not there; status 1 where there is one
 
 Of TOUR each part under a heading is read by itself: every path in backquotes has to be there, every other word in backquotes has to stand in
 one of the files that the part names, and every block of a contract has to be a clause of a function that the part names, in one of them.
 Of CONTRIBUTING each path in backquotes has to be there; in a row of a list that begins with a crate's name, in that crate. `{a,b}` stands for
-both, `NAME` for any name. Of MAP each file of specs/ in parentheses has to be there. The gate runs this (.ci/timed.py).
+both, `NAME` for any name. Of MAP each file of specs/ in parentheses has to be there. The table of office/README.md has each folder and module of
+society-office once, and no other. The gate runs this (.ci/timed.py).
 """
 import pathlib
 import re
 import sys
 
 TOP = pathlib.Path(__file__).resolve().parent.parent
-TOUR, MAP, CONTRIBUTING = "docs/TOUR.md", "docs/MAP.md", "CONTRIBUTING.md"
+TOUR, MAP, CONTRIBUTING, OFFICE = "docs/TOUR.md", "docs/MAP.md", "CONTRIBUTING.md", "office/README.md"
+MODULES = TOP / "office/society_office"
 QUOTED = re.compile(r"`([^`\n]+)`")
 WORD = re.compile(r"[A-Za-z]\w*(?:\.\w+)*")
 PATH = re.compile(r"[\w.{},-]+(?:/[\w.{},-]+)*/?")
@@ -96,9 +98,19 @@ def faults_of_map(text):
             yield from (f"{MAP}: there is no {it}" for it in absent(path))
 
 
+def faults_of_office(text):
+    named, folder = [], ""
+    for cell in re.findall(r"^\| ([^|]*\.py[^|]*|\*\*\w+/\*\*) \|", text, re.M):
+        folder = cell.strip("*") if cell.startswith("*") else folder
+        named += [folder + it for it in re.findall(r"\b\w+\.py\b", cell)]
+    there = [it.relative_to(MODULES).as_posix() for it in MODULES.rglob("*.py") if it.name != "__init__.py"]
+    yield from (f"{OFFICE}: there is no {it} in {MODULES.relative_to(TOP)}/" for it in sorted(set(named) - set(there)))
+    yield from (f"{OFFICE}: has not {it} once" for it in sorted(there) if named.count(it) != 1)
+
+
 def faults():
     """A line for each thing of which the documents speak and that is not there."""
-    for name, read in ((TOUR, faults_of_tour), (MAP, faults_of_map), (CONTRIBUTING, faults_of_contributing)):
+    for name, read in ((TOUR, faults_of_tour), (MAP, faults_of_map), (CONTRIBUTING, faults_of_contributing), (OFFICE, faults_of_office)):
         if not (TOP / name).is_file():
             yield f"{name}: is not there"
         else:
@@ -109,7 +121,7 @@ def check():
     """Tells each fault; gives how many documents passed, and how many faults there were."""
     found = list(faults())
     print(*found, f"documents: {len(found)} names, paths and clauses that are not there", sep="\n", flush=True)
-    return 3 - len({it.split(":")[0] for it in found}), len(found)
+    return 4 - len({it.split(":")[0] for it in found}), len(found)
 
 
 if __name__ == "__main__":

@@ -24,7 +24,7 @@ import time
 
 import common
 from common import NO_WORKS, OFFICE, ROOT, SENDER
-from society_office import page_sums
+from society_office.book import page_sums
 
 BACKUP, RESTORE = ROOT / "debian/bin/society-backup", ROOT / "debian/bin/society-restore"
 PATH = f"/v1/senders/{SENDER}/transmissions"

@@ -21,7 +21,7 @@ import threading
 
 import common
 from common import OFFICE, Server
-from society_office import book_log, page_sums
+from society_office.book import book_log, page_sums
 
 SENDERS, FILES, WORKS, POOLS = 5, 16, 50, 5
 HEADER_BITS = 100 * 8

@@ -24,9 +24,11 @@ from common import ROOT, SENDER, Server, order_body, plays, works_file
 
 sys.path[:0] = [str(ROOT / "office"), str(ROOT / "office/tests")]
 import odd_office  # noqa: E402 (the folders of the checkout come first)
-from society_office import book_files, book_log, decisions  # noqa: E402
-from society_office.cli import main as society_office  # noqa: E402
-from society_office.closing import state_of, unfinished  # noqa: E402
+from society_office.book import book_log  # noqa: E402
+from society_office.closings.closing import state_of, unfinished  # noqa: E402
+from society_office.commands.cli import main as society_office  # noqa: E402
+from society_office.decided import decisions  # noqa: E402
+from society_office.offices import book_files  # noqa: E402
 
 WRONG = []
 MODES = [f"{mode}{after}" for mode in odd_office.MODES for after in ("", " after")] + ["forgets"]

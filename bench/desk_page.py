@@ -61,7 +61,7 @@ def check_faults(write):
     """Compares the page's faults with those of the document, or writes them."""
     wanted = json.dumps(faults_of((ROOT / "docs/FAULTS.md").read_text()), indent=2, ensure_ascii=False) + "\n"
     if write:
-        for folder in (PAGE, common.ROOT / "office/society_office"):
+        for folder in (PAGE, common.ROOT / "office/society_office/checks"):
             (folder / "faults.json").write_text(wanted)
     check("faults.json", (PAGE / "faults.json").read_text() == wanted, "is not what docs/FAULTS.md says: make it anew by --write-faults")
 

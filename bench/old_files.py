@@ -17,7 +17,7 @@ import tempfile
 
 import common
 from common import OFFICE, ROOT, Server
-from society_office import page_sums
+from society_office.book import page_sums
 
 # What makes layout 2 of layout 3, and layout 1 of layout 2.
 SECOND = "DROP TABLE mechanical_pools; DROP TABLE segment_ends; UPDATE office SET layout = 2;"

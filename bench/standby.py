@@ -34,7 +34,7 @@ from proxy import SECRET, Proxy
 
 sys.path[:0] = [str(ROOT / "office"), str(ROOT / "office/tests")]
 import random_office  # noqa: E402 (the folders of the checkout come first)
-from society_office import mirroring  # noqa: E402
+from society_office.second_office import mirroring  # noqa: E402
 
 SENDERS, STATIONS = random_office.SENDERS, ["station-RADIO1", "station-TV1"]
 USERS = [*SENDERS, *STATIONS, OFFICE]

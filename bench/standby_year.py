@@ -12,8 +12,9 @@ import common
 from common import ROOT, order_body, plays, works_file
 
 sys.path[:0] = [str(ROOT / "office")]
-from society_office import decisions, journal, standby_files  # noqa: E402 (the folder of the checkout comes first)
-from society_office.errors import OfficeError  # noqa: E402
+from society_office.decided import decisions, journal  # noqa: E402 (the folder of the checkout comes first)
+from society_office.second_office import standby_files  # noqa: E402 (the folder of the checkout comes first)
+from society_office.basics.errors import OfficeError  # noqa: E402
 
 SENDER, STATION, AMOUNT = "PB000000012", "RADIO1", 1_000
 

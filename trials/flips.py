@@ -3,7 +3,7 @@ from common import CSV_HEADER, put_return
 from leaving import IN_EVERY_TABLE, change, left_by
 from openings import DAMAGED, SOUND, audited, check_opened
 from program import SERVED_ONE, answer, answered, served_one, told, trial
-from society_office import page_sums
+from society_office.book import page_sums
 
 # The bytes of a page, and where the first one tells how often the file was changed, and the first free page.
 PAGE = 4_096

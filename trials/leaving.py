@@ -4,7 +4,7 @@ import sqlite3
 
 from common import FIRST, NO_WORKS, REVISION, SENDER, order_body, put_file, put_named, put_pool, put_return, request, state_end
 from program import SERVED_ONE, Server, served_one, told, trial
-from society_office import page_sums
+from society_office.book import page_sums
 
 
 # Requests that leave a database.

@@ -8,7 +8,7 @@ import sys
 from common import CSV_HEADER, FIRST, OFFICE, put_file, put_return
 from openings import SOUND
 from program import EMPTY_DATABASE, Ended, answered, held_by, run, served_one, told, trial
-from society_office import book_log
+from society_office.book import book_log
 
 LOG = Ended(b"", b"society: database log\n", 1)
 PAGE, FRAME = 4_096, 4_096 + book_log.FRAME_HEADER

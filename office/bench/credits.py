@@ -17,10 +17,10 @@ OFFICE = pathlib.Path(__file__).resolve().parent.parent
 sys.path[:0] = [str(OFFICE), str(OFFICE / "tests")]
 
 import random_office  # noqa: E402 (the folders of the checkout come first)
-from society_office.copy import open_copy  # noqa: E402
-from society_office.credit import Asked  # noqa: E402
-from society_office.pool_kinds import Book  # noqa: E402
-from society_office.program import find_program, trial_office  # noqa: E402
+from society_office.book.copy import open_copy  # noqa: E402
+from society_office.closings.credit import Asked  # noqa: E402
+from society_office.closings.pool_kinds import Book  # noqa: E402
+from society_office.offices.program import find_program, trial_office  # noqa: E402
 
 WORDS = ["--society", "900", "--territory", "40", "--name", "EXAMPLE SOCIETY"]
 # A cell with its quotes, where it has any.

@@ -1,7 +1,7 @@
 #!/usr/bin/python3
 """Tries payments at length: treasurers at random offices, commands that are killed, and an office of thousands of members.
 
-    payments.py --offices 2000     the days of tests/test_random_payments.py at as many offices; payment files by the schema of the message,
+    payments.py --offices 2000     the days of tests/payments/test_random_payments.py at as many offices; payment files by the schema,
                                    and every tenth ledger by hledger, where xmllint and hledger are installed
     payments.py --kills 1000       ends `pay` by SIGKILL at any moment: a batch is ordered whole or not at all, and nothing twice
     payments.py --members 6000     seconds and memory of `pay` and of all statements
@@ -24,19 +24,19 @@ import traceback
 from collections.abc import Iterator
 
 OFFICE = pathlib.Path(__file__).resolve().parent.parent
-sys.path[:0] = [str(OFFICE), str(OFFICE / "tests"), str(OFFICE / "bench")]
+sys.path[:0] = [str(OFFICE), str(OFFICE / "tests"), str(OFFICE / "tests/payments"), str(OFFICE / "bench")]
 
 import pytest  # noqa: E402 (the folders of the checkout come first)
 import sizes  # noqa: E402
+from command import run  # noqa: E402
 from conftest import made, program_under_test  # noqa: E402
 from quarter import OFFICE as QUARTER  # noqa: E402
-from society_office import decisions  # noqa: E402
-from society_office.cli import main as command  # noqa: E402
-from society_office.copy import open_copy  # noqa: E402
+from society_office.book.copy import open_copy  # noqa: E402
+from society_office.commands.cli import main as command  # noqa: E402
+from society_office.decided import decisions  # noqa: E402
 from society_office.payments import home  # noqa: E402
 from test_payments import ROWS, HEADER, begun  # noqa: E402
 from test_random_payments import live  # noqa: E402
-from test_statements import run  # noqa: E402
 from treasury import Treasurer, iban  # noqa: E402
 
 MEMORY = "/dev/shm" if os.access("/dev/shm", os.W_OK) else None

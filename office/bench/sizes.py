@@ -19,12 +19,13 @@ OFFICE = pathlib.Path(__file__).resolve().parent.parent
 ROOT = OFFICE.parent
 sys.path.insert(0, str(OFFICE))
 
-from society_office import decisions, fields, plays  # noqa: E402 (the folder of the checkout comes first)
-from society_office.amendments import order_over  # noqa: E402
-from society_office.copy import open_copy  # noqa: E402
-from society_office.own_returns import ROWLESS, amends  # noqa: E402
-from society_office.pool_kinds import Book  # noqa: E402
-from society_office.program import Office, find_program, trial_office  # noqa: E402
+from society_office.decided import decisions  # noqa: E402 (the folder of the checkout comes first)
+from society_office.formats import fields, plays  # noqa: E402 (the folder of the checkout comes first)
+from society_office.book.copy import open_copy  # noqa: E402
+from society_office.book.own_returns import ROWLESS, amends  # noqa: E402
+from society_office.closings.amendments import order_over  # noqa: E402
+from society_office.closings.pool_kinds import Book  # noqa: E402
+from society_office.offices.program import Office, find_program, trial_office  # noqa: E402
 
 FIRST_LINES = (ROOT / "examples/first.cwr").read_bytes().split(b"\r\n")
 WORDS = ["--society", "900", "--territory", "40", "--name", "EXAMPLE SOCIETY"]

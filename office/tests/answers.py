@@ -8,8 +8,8 @@ import re
 from collections import Counter
 
 import reckoning
+from command import run
 from office_value import File, Office, Return, sent
-from test_statements import run
 
 
 def rows_of(text: str) -> list[dict[str, str]]:

@@ -10,16 +10,16 @@ import sys
 from collections import Counter
 
 from ledger import EMPTY, NOBODY, Due, Ledger, Order, Return, Units, Work, is_own, opened, order_text, read
-from society_office.amendments import Changes, amended, order_over, orders_as_due
-from society_office.copy import Copy
-from society_office.credit import Asked, Row
-from society_office.decisions import Amendment
-from society_office.dues import Dues, MakeUp
-from society_office.errors import OfficeError
-from society_office.own_returns import ROWLESS, amends
-from society_office.pool_kinds import Book
-from society_office.return_names import Entry, entry
-from society_office.stored_returns import stored_returns
+from society_office.basics.errors import OfficeError
+from society_office.book.copy import Copy
+from society_office.book.own_returns import ROWLESS, amends
+from society_office.book.stored_returns import stored_returns
+from society_office.closings.amendments import Changes, amended, order_over, orders_as_due
+from society_office.closings.credit import Asked, Row
+from society_office.closings.dues import Dues, MakeUp
+from society_office.closings.pool_kinds import Book
+from society_office.decided.decisions import Amendment
+from society_office.formats.return_names import Entry, entry
 
 SENDERS = ["PB000000012", "PB000000034", "PB000000056"]
 RECORDINGS = [f"ATABC26000{k:02d}" for k in range(3)]

@@ -14,11 +14,14 @@ import pytest
 
 HERE = pathlib.Path(__file__).resolve().parent
 ROOT = HERE.parent.parent
-sys.path[:0] = [str(HERE), str(HERE.parent)]
+# (a test may take what another one has, of any folder)
+sys.path[:0] = [str(HERE), str(HERE.parent), *sorted(str(it) for it in HERE.iterdir() if it.is_dir() and it.name != "__pycache__")]
 
 import quarter  # noqa: E402 (the folder of the tests comes first)
 from office_value import Office  # noqa: E402
-from society_office import book_files, book_log, decisions  # noqa: E402
+from society_office.book import book_log  # noqa: E402
+from society_office.decided import decisions  # noqa: E402
+from society_office.offices import book_files  # noqa: E402
 
 OFFICE = ["--society", "900", "--territory", "40", "--name", "EXAMPLE SOCIETY"]
 TAKEN = {200, 201, 202}
@@ -76,7 +79,7 @@ def running(
 @contextlib.contextmanager
 def served(program: str, database: pathlib.Path) -> Iterator[http.client.HTTPConnection]:
     """An office over a file, with one connection to it; the office ends with the connection."""
-    from society_office.program import free_port
+    from society_office.offices.program import free_port
 
     port = free_port()
     with running(program, database, port, "--connections", "1") as process:

@@ -4,10 +4,10 @@ import json
 import pathlib
 from collections import Counter
 
+from command import run
 from conftest import made, put, served
-from office_value import File, Office, Step
 from cwr import Party, Row, Work
-from test_statements import run
+from office_value import File, Office, Step
 
 HOUSE, OTHER = "PB000000012", "PB000000034"
 NAMES = {HOUSE: "HOUSE MUSIC", OTHER: "OTHER MUSIC"}

@@ -5,7 +5,7 @@ from collections.abc import Callable
 
 import quarter
 from office_value import return_body
-from society_office import fields
+from society_office.formats import fields
 
 WORDS = [
     b"HDR",

@@ -18,7 +18,7 @@ from collections.abc import Iterable
 TESTS = pathlib.Path(__file__).resolve().parent
 ROOT = TESTS.parent.parent
 # The tests that take long, and the seconds that a run may take: a bug that makes one hang is noticed.
-LONG, MOST = ["test_random_offices.py", "test_bench.py"], 600
+LONG, MOST = ["commands/test_random_offices.py", "gate/test_bench.py"], 600
 
 
 def checkout(folder: pathlib.Path) -> pathlib.Path:

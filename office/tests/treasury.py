@@ -15,8 +15,8 @@ from collections import Counter
 
 import reckoning
 from answers import rows_of
+from command import run
 from office_value import Office
-from test_statements import run
 
 DAY = datetime.date(2026, 1, 1)
 LENGTHS = {"AT": 20, "DE": 22, "FR": 27, "NO": 15, "MT": 31}

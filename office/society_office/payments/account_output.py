@@ -7,15 +7,15 @@ import pathlib
 from collections.abc import Callable, Iterable, Iterator, Sequence
 from typing import Any
 
-from society_office import pages
-from society_office.errors import OfficeError
-from society_office.numbering import counted
+from society_office.basics.errors import OfficeError
+from society_office.basics.plain_text import plain
+from society_office.basics.terminal import console, counting, say, table
+from society_office.credits.statement_output import tell_older
+from society_office.credits.statements import folder_of
+from society_office.formats.numbering import counted
 from society_office.payments import private
 from society_office.payments.accounting import Account, Accounts
-from society_office.plain_text import plain
-from society_office.statement_output import tell_older
-from society_office.statements import folder_of
-from society_office.terminal import console, counting, say, table
+from society_office.printed import pages
 
 COLUMNS = [
     *("statement", "member", "day", "what", "pool", "pool_name", "right", "account", "title", "work", "publisher", "batch", "words"),

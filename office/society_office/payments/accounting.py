@@ -12,19 +12,19 @@ import operator
 from collections.abc import Iterable, Iterator, Sequence
 from typing import NamedTuple
 
-from society_office.copy import Copy
-from society_office.errors import OfficeError
-from society_office.own_returns import corrected_by, is_own
-from society_office.owners import OWNER
+from society_office.basics.errors import OfficeError
+from society_office.book.copy import Copy
+from society_office.book.own_returns import corrected_by, is_own
+from society_office.closings.pool_kinds import Book
+from society_office.credits.statements import Statements
+from society_office.formats.pool_names import PoolNames, pool_text
 from society_office.payments.booking import Credits, need_same
 from society_office.payments.home import Home
 from society_office.payments.members import Member
 from society_office.payments.owed import Entry, Kind
 from society_office.payments.words import Words
-from society_office.pool_kinds import Book
-from society_office.pool_names import PoolNames, pool_text
-from society_office.records import UNCLAIMED
-from society_office.statements import Statements
+from society_office.works.owners import OWNER
+from society_office.works.records import UNCLAIMED
 
 
 class Earned(NamedTuple):

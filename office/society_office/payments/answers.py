@@ -4,7 +4,7 @@ import dataclasses
 import datetime
 from collections.abc import Sequence
 
-from society_office.errors import OfficeError
+from society_office.basics.errors import OfficeError
 from society_office.payments.bank_lists import Told
 from society_office.payments.home import Home
 from society_office.payments.ledger import Batch

@@ -8,9 +8,9 @@ import re
 import xml.etree.ElementTree as xml
 from collections.abc import Iterator
 
-from society_office.errors import OfficeError
+from society_office.basics.errors import OfficeError
+from society_office.formats.plays import BOM
 from society_office.payments.words import Words
-from society_office.plays import BOM
 
 COLUMNS = ["reference", "amount", "day", "why"]
 REFERENCE = re.compile(r"([0-9]{3})-PAY-([1-9][0-9]{0,8})-([0-9A-Z]{1,16})", re.ASCII)

@@ -6,8 +6,8 @@ import json
 from collections.abc import Iterable, Sequence
 from typing import Any
 
-from society_office.errors import OfficeError
-from society_office.journal import sum_of
+from society_office.basics.errors import OfficeError
+from society_office.decided.journal import sum_of
 from society_office.payments import pain, private
 from society_office.payments.home import Desk, Home
 from society_office.payments.ledger import NOBODY

@@ -3,14 +3,14 @@
 import dataclasses
 import datetime
 
-from society_office.copy import Copy
-from society_office.errors import OfficeError
+from society_office.basics.errors import OfficeError
+from society_office.book.copy import Copy
+from society_office.book.soundness import need_sound
+from society_office.formats.pool_names import PoolNames
 from society_office.payments.home import Desk, Home
 from society_office.payments.ledger import NOBODY
 from society_office.payments.owed import Credit, Entry, Kind, bookings
-from society_office.pool_names import PoolNames
-from society_office.records import UNCLAIMED
-from society_office.soundness import need_sound
+from society_office.works.records import UNCLAIMED
 
 
 @dataclasses.dataclass(frozen=True)

@@ -6,15 +6,15 @@ from collections.abc import Iterator
 
 import click
 
-from society_office import decisions
-from society_office.command_words import COPY_HELP, DECISIONS_HELP, PATH, WRONG, Command, noted
-from society_office.errors import OfficeError
-from society_office.journal import one_line
-from society_office.numbering import counted
+from society_office.basics.errors import OfficeError
+from society_office.basics.terminal import say
+from society_office.commands.command_words import COPY_HELP, DECISIONS_HELP, PATH, WRONG, Command, noted
+from society_office.decided import decisions
+from society_office.decided.journal import one_line
+from society_office.formats.numbering import counted
+from society_office.offices.program import open_whole
 from society_office.payments import booking, home, members, private, registering
 from society_office.payments.home import MEMBERS, Home
-from society_office.program import open_whole
-from society_office.terminal import say
 
 DECISIONS = click.option("--decisions", "folder", type=PATH, metavar="FOLDER", help=DECISIONS_HELP)
 WHY = click.option("--why", required=True, metavar="WORDS", help="Why, for the journal.")

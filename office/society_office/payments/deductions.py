@@ -11,10 +11,10 @@ import pathlib
 import re
 from collections.abc import Mapping
 
-from society_office.errors import OfficeError
-from society_office.orders import LAST_POOL
+from society_office.basics.errors import OfficeError
+from society_office.closings.orders import LAST_POOL
+from society_office.formats.word_lists import entries_of
 from society_office.payments.owed import WHOLE, Rule
-from society_office.word_lists import entries_of
 
 HEAD = (
     "# Deductions, taken in this order: administration: 15 % of gross; right PR MR; from pool 1\n"

@@ -15,17 +15,17 @@ import functools
 import pathlib
 from collections.abc import Iterable, Iterator
 
-from society_office import decisions
-from society_office.decisions import Decisions, Writer
-from society_office.errors import OfficeError
-from society_office.journal import sum_of
-from society_office.numbering import counted
+from society_office.basics.errors import OfficeError
+from society_office.basics.terminal import say
+from society_office.decided import decisions
+from society_office.decided.decisions import Decisions, Writer
+from society_office.decided.journal import sum_of
+from society_office.formats.numbering import counted
 from society_office.payments import deductions, ledger, members, private, words
 from society_office.payments.ledger import Ledger
 from society_office.payments.members import Members
 from society_office.payments.owed import Entry, Rule
 from society_office.payments.words import Words
-from society_office.terminal import say
 
 NAME, BATCHES = "payments", "batches"
 MEMBERS, WORDS, DEDUCTIONS, LEDGER = "members.csv", "payments.txt", "deductions.txt", "ledger.txt"

@@ -14,12 +14,12 @@ import re
 from collections.abc import Iterable, Mapping
 from typing import NamedTuple
 
-from society_office.errors import OfficeError
-from society_office.journal import MOMENT
-from society_office.numbering import counted
+from society_office.basics.errors import OfficeError
+from society_office.decided.journal import MOMENT
+from society_office.formats.numbering import counted
 from society_office.payments.members import KEY
 from society_office.payments.owed import Booked, Entry, Kind
-from society_office.records import UNCLAIMED
+from society_office.works.records import UNCLAIMED
 
 HEAD = "# Written by commands alone: `society-office ledger` reads it.\n"
 FIELDS = 10

@@ -4,12 +4,12 @@ import csv
 import io
 from collections.abc import Callable, Iterable, Iterator
 
-from society_office.balances import harmless
+from society_office.basics.plain_text import plain
+from society_office.credits.balances import harmless
+from society_office.credits.statements import folder_of
 from society_office.payments.ledger import Ledger, Line
 from society_office.payments.owed import Kind
-from society_office.plain_text import plain
-from society_office.records import UNCLAIMED
-from society_office.statements import folder_of
+from society_office.works.records import UNCLAIMED
 
 COLUMNS = ["number", "written", "what", "day", "member", "units", "owed", "pool", "batch", "words"]
 # The accounts of a journal: what members are owed, and where that came from or went.

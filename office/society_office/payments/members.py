@@ -9,12 +9,12 @@ import pathlib
 import re
 from collections.abc import Iterable, Iterator, Mapping
 
-from society_office.errors import OfficeError
+from society_office.basics.errors import OfficeError
+from society_office.credits.statements import ACCOUNT
+from society_office.formats.plays import BOM
 from society_office.payments.bank_accounts import COUNTRY, bic_fault, compact, iban_fault
 from society_office.payments.bank_text import can_be_read
-from society_office.plays import BOM
-from society_office.records import UNCLAIMED
-from society_office.statements import ACCOUNT
+from society_office.works.records import UNCLAIMED
 
 COLUMNS = ["member", "name", "street", "postcode", "town", "country", "language", "iban", "bic", "minimum", "tax", "email", "accounts"]
 HEAD = ",".join(COLUMNS) + "\n"

@@ -12,7 +12,7 @@ import enum
 from collections.abc import Callable, Iterable, Iterator, Mapping, Sequence, Set
 from typing import NamedTuple
 
-from society_office.records import UNCLAIMED
+from society_office.works.records import UNCLAIMED
 
 # A percentage is told in hundredths of a percent.
 WHOLE = 10_000

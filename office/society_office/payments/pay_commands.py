@@ -6,10 +6,12 @@ import sys
 
 import click
 
-from society_office.command_words import COPY_HELP, PATH, PROGRAM_HELP, Amount, Command, decided, noted
-from society_office.errors import OfficeError
-from society_office.journal import one_line
-from society_office.numbering import counted
+from society_office.basics.errors import OfficeError
+from society_office.basics.terminal import console, say, table
+from society_office.commands.command_words import COPY_HELP, PATH, PROGRAM_HELP, Amount, Command, decided, noted
+from society_office.decided.journal import one_line
+from society_office.formats.numbering import counted
+from society_office.offices.program import find_program, open_whole
 from society_office.payments import answers, bank_lists, batches, booking, home, listing, pay_output, private, writing_off
 from society_office.payments.commands import DECISIONS, KEY, WHY
 from society_office.payments.home import WORDS, Desk
@@ -17,9 +19,7 @@ from society_office.payments.ledger import owed_by
 from society_office.payments.owed import Entry, Kind
 from society_office.payments.pain import Order
 from society_office.payments.words import need_account
-from society_office.program import find_program, open_whole
-from society_office.records import UNCLAIMED
-from society_office.terminal import console, say, table
+from society_office.works.records import UNCLAIMED
 
 DAY = click.DateTime(["%Y-%m-%d"])
 BATCH = click.IntRange(1, 999_999)

@@ -7,13 +7,13 @@ from collections.abc import Iterator
 
 from rich.table import Table
 
-from society_office import pages
+from society_office.basics.plain_text import plain
+from society_office.basics.terminal import table
 from society_office.payments import batches, private
 from society_office.payments.batches import Owing
 from society_office.payments.home import Home
 from society_office.payments.pain import Order, Payee
-from society_office.plain_text import plain
-from society_office.terminal import table
+from society_office.printed import pages
 
 COLUMNS = ["reference", "member", "name", "street", "postcode", "town", "country", "iban", "bic", "account", "units", "amount", "currency"]
 

@@ -7,8 +7,8 @@ import shutil
 import stat
 from collections.abc import Iterable, Iterator
 
-from society_office.decisions import sync
-from society_office.errors import OfficeError
+from society_office.basics.errors import OfficeError
+from society_office.decided.decisions import sync
 
 # The user writes, the group reads; in a folder all of the group may put and replace files.
 FILE, SHARED, FOLDER = 0o640, 0o2770, 0o750

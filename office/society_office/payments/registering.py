@@ -3,13 +3,13 @@
 import dataclasses
 import datetime
 
-from society_office.errors import OfficeError
-from society_office.journal import one_line
+from society_office.basics.errors import OfficeError
+from society_office.decided.journal import one_line
 from society_office.payments import batches, members, private
 from society_office.payments.home import MEMBERS, Desk
 from society_office.payments.members import COLUMNS
 from society_office.payments.owed import Entry, Kind
-from society_office.records import UNCLAIMED
+from society_office.works.records import UNCLAIMED
 
 # Other names of columns, in small letters, as spreadsheets of offices have them.
 OTHER_NAMES = {

@@ -6,11 +6,11 @@ import sys
 
 import click
 
-from society_office.command_words import COPY_HELP, PATH, Command, noted
+from society_office.commands.command_words import COPY_HELP, PATH, Command, noted
+from society_office.offices.program import open_whole
 from society_office.payments import account_output, booking, home, private
 from society_office.payments.accounting import Account, Accounts
 from society_office.payments.commands import DECISIONS
-from society_office.program import open_whole
 
 DAY = click.DateTime(["%Y-%m-%d"])
 

@@ -4,10 +4,10 @@ import dataclasses
 import pathlib
 import re
 
-from society_office.errors import OfficeError
+from society_office.basics.errors import OfficeError
+from society_office.formats.word_lists import entries_of
 from society_office.payments.bank_accounts import bic_fault, compact, iban_fault
 from society_office.payments.bank_text import can_be_read
-from society_office.word_lists import entries_of
 
 HEAD = """\
 # The office's words for payments: its name and account as the bank has them, its address for statements, its currency, how many units

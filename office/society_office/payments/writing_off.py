@@ -1,15 +1,15 @@
 """What nobody was paid and is to be written off: as much as `dues` says, less what the ledger has written off."""
 
-from society_office.amendments import orders_as_due
-from society_office.copy import Copy
-from society_office.credit import asking
-from society_office.decisions import Decisions
-from society_office.dues import Dues
-from society_office.errors import OfficeError
+from society_office.basics.errors import OfficeError
+from society_office.book.copy import Copy
+from society_office.closings.amendments import orders_as_due
+from society_office.closings.credit import asking
+from society_office.closings.dues import Dues
+from society_office.closings.pool_kinds import Book
+from society_office.decided.decisions import Decisions
 from society_office.payments.ledger import Ledger
 from society_office.payments.owed import Kind
-from society_office.pool_kinds import Book
-from society_office.records import UNCLAIMED
+from society_office.works.records import UNCLAIMED
 
 
 def to_be_written_off(copy: Copy, known: Decisions, program: str) -> int:

@@ -1,0 +1,1 @@
+"""What is wrong with a file, before it is sent and since."""

@@ -1,0 +1,1 @@
+"""Orders: what is due, what they would credit, how they are rehearsed, put right and closed."""

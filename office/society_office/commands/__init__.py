@@ -1,0 +1,1 @@
+"""The words of the command `society-office`; each leaves the work to the module of its subject."""

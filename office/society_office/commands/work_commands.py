@@ -1,0 +1,42 @@
+"""The words of the command that finds works."""
+
+import pathlib
+
+import click
+
+from society_office.basics.terminal import say
+from society_office.commands.command_words import COPY_HELP, PATH, Command, noted
+from society_office.formats.numbering import counted
+from society_office.offices.program import open_whole
+from society_office.printed.pages import write_out
+from society_office.works import registered_works, work_index, work_search, work_search_output
+
+# Works that are shown where nothing else is asked for.
+MOST = 20
+
+
+@click.command("works", cls=Command, epilog=COPY_HELP, short_help="Finds works by title, holder or number.")
+@click.argument("copy", type=PATH)
+@click.argument("words", nargs=-1)
+@click.option("--most", type=click.IntRange(1), default=MOST, show_default=True, metavar="N", help="Show no more works than this.")
+@click.option("--format", "form", type=click.Choice(list(work_search_output.FORMS)), default="table", help="How it is written.")
+@click.option("--output", type=PATH, help="The file to write; without it, standard output.")
+def works(copy: pathlib.Path, words: tuple[str, ...], most: int, form: str, output: pathlib.Path | None) -> None:
+    """Finds works, also those that never earned, were revised or rejected, or wait: with holders, versions and credits.
+
+    WORDS are how words of titles and of holders' names begin, or how a number does: of a sender, a work, an account, an ISWC or an ISRC.
+    All of them have to be found. Accents, small or capital letters, points and hyphens make no difference. Without WORDS each work is
+    found. The first search of a copy reads all its works and writes an index beside it; where it can't write that, each search does.
+    """
+    with open_whole(copy) as opened:
+        index, note = work_index.of(noted(opened))
+        if note:
+            say(f"society-office: {note}", error=True)
+        found = index.find(work_search.asked(words))
+        shown = registered_works.told(opened, index.places(found[:most]))
+    write_out(work_search_output.FORMS[form](shown, len(found)), output)
+    if len(found) > most and form != "table":
+        say(f"society-office: {counted(len(found) - most, 'more work')}: give `--most {len(found)}`", error=True)
+
+
+COMMANDS = (works,)

@@ -1,0 +1,1 @@
+"""What the office decides beside the book, and who decided it."""

@@ -1,0 +1,1 @@
+"""A second office beside the first: whether both are the same, and how it becomes and stays so."""
