@@ -6,7 +6,7 @@
 Of TOUR each part under a heading is read by itself: every path in backquotes has to be there, every other word in backquotes has to stand in
 one of the files that the part names, and every block of a contract has to be a clause of a function that the part names, in one of them.
 Of CONTRIBUTING each path in backquotes has to be there; in a row of a list that begins with a crate's name, in that crate. `{a,b}` stands for
-both, `NAME` for any name. Of MAP each file of specs/ in parentheses has to be there. The table of office/README.md has each folder and module of
+both, `NAME` for any name. Of MAP each file of specs/ in parentheses has to be there. The list of office/README.md has each folder of
 society-office once, and no other. The gate runs this (.ci/timed.py).
 """
 import pathlib
@@ -99,11 +99,8 @@ def faults_of_map(text):
 
 
 def faults_of_office(text):
-    named, folder = [], ""
-    for cell in re.findall(r"^\| ([^|]*\.py[^|]*|\*\*\w+/\*\*) \|", text, re.M):
-        folder = cell.strip("*") if cell.startswith("*") else folder
-        named += [folder + it for it in re.findall(r"\b\w+\.py\b", cell)]
-    there = [it.relative_to(MODULES).as_posix() for it in MODULES.rglob("*.py") if it.name != "__init__.py"]
+    named = re.findall(r"^- \*\*(\w+)/\*\*", text, re.M)
+    there = [it.name for it in MODULES.iterdir() if any(it.glob("*.py"))]
     yield from (f"{OFFICE}: there is no {it} in {MODULES.relative_to(TOP)}/" for it in sorted(set(named) - set(there)))
     yield from (f"{OFFICE}: has not {it} once" for it in sorted(there) if named.count(it) != 1)
 
