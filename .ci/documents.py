@@ -3,8 +3,8 @@
 
     .ci/documents.py     a line for each thing that is not there; status 1 where there is one
 
-Of TOUR each part under a heading is read by itself: every path in backquotes has to be there, every other word in backquotes has to stand in
-one of the files that the part names, and every block of a contract has to be a clause of a function that the part names, in one of them.
+Of TOUR each part under a heading, and each step, is read by itself: every path in backquotes has to be there, every other word in backquotes has
+to stand in one of the files that the part names, and a word in parentheses behind a function in that function's contract there.
 Of CONTRIBUTING each path in backquotes has to be there; in a row of a list that begins with a crate's name, in that crate. `{a,b}` stands for
 both, `NAME` for any name. Of MAP each file of specs/ in parentheses has to be there. The list of office/README.md has each folder of
 society-office once, and no other. The gate runs this (.ci/timed.py).
@@ -20,7 +20,7 @@ QUOTED = re.compile(r"`([^`\n]+)`")
 WORD = re.compile(r"[A-Za-z]\w*(?:\.\w+)*")
 PATH = re.compile(r"[\w.{},-]+(?:/[\w.{},-]+)*/?")
 ROW = re.compile(r"- `(\w+)`: ")
-BLOCK = re.compile(r"^```(\w*)\n(.*?)^```$", re.M | re.S)
+CLAUSE = re.compile(r"`(\w+)` \(`(\w+)`\)")
 
 
 def expanded(path):
@@ -42,40 +42,30 @@ def is_path(quoted):
 
 
 def parts(text):
-    """The parts of a document: of each heading the number of its line, and the text under it."""
-    begins = [it.start() for it in re.finditer(r"^#+ ", text, re.M)]
+    """The parts of a document: of each heading and each step the number of its line, and the text under it."""
+    begins = [it.start() for it in re.finditer(r"^(#+|\d+\.) ", text, re.M)]
     for begin, end in zip(begins, [*begins[1:], len(text)]):
         yield text.count("\n", 0, begin) + 1, text[begin:end]
 
 
-def plain(text):
-    """A text with one blank where it has several, or line ends."""
-    return " ".join(text.split())
-
-
-def contracts(source, names):
-    """What stands between the heads and the bodies of the functions of these names, without comments."""
-    for name in names:
-        for head in re.finditer(rf"^(\s*)(?:pub(?:\([a-z ]+\))? )?fn {re.escape(name)}\b.*?(?=^\1\{{)", source, re.M | re.S):
-            yield plain(re.sub(r"^\s*//.*$", "", head[0], flags=re.M))
+def contracts(source, name):
+    """What stands between the heads and the bodies of the functions of a name, without comments."""
+    for head in re.finditer(rf"^(\s*)(?:pub(?:\([a-z ]+\))? )?fn {re.escape(name)}\b.*?(?=^\1\{{)", source, re.M | re.S):
+        yield re.sub(r"^\s*//.*$", "", head[0], flags=re.M)
 
 
 def faults_of_part(text):
     """What a part of the tour names that is not there."""
-    prose = BLOCK.sub("", text)
-    quoted = QUOTED.findall(prose)
+    quoted = QUOTED.findall(text)
     paths = [it for it in quoted if is_path(it)]
     yield from (f"there is no {it}" for path in paths for it in absent(path))
     sources = [(TOP / it).read_text(encoding="utf-8") for it in paths if (TOP / it).is_file()]
     names = [it for it in quoted if not is_path(it) and WORD.fullmatch(it)]
-    # (what a clause says may be spoken of too)
-    known = [*sources, *(block for _, block in BLOCK.findall(text))]
     if paths:
-        yield from (f"no file named there has the word {it}" for it in names if not any(re.search(rf"\b{re.escape(it)}\b", source) for source in known))
-    clauses = [it for source in sources for it in contracts(source, names)]
-    for kind, block in BLOCK.findall(text):
-        if kind == "rattle" and not any(plain(block) in it for it in clauses):
-            yield f"no function named there has the clause {plain(block):.80}"
+        yield from (f"no file named there has the word {it}" for it in names if not any(re.search(rf"\b{re.escape(it)}\b", source) for source in sources))
+    for name, clause in CLAUSE.findall(" ".join(text.split())):
+        if not any(re.search(rf"\b{clause}\b", it) for source in sources for it in contracts(source, name)):
+            yield f"no function {name} there has the clause {clause}"
 
 
 def faults_of_tour(text):
