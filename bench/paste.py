@@ -28,7 +28,7 @@ import time
 import common
 from common import ROOT
 
-DOCUMENTS = ["README.md", "docs/OPERATIONS.md", "docs/FAULTS.md", "docs/PUBLISHERS.md", "docs/STATIONS.md", "docs/OFFICE.md"]
+DOCUMENTS = ["README.md", "docs/OPERATIONS.md", "docs/PUBLISHERS.md", "docs/STATIONS.md", "docs/OFFICE.md"]
 PRACTICE = "bench/practice.sh"
 # What blocks use and a machine may lack: programs, in packages of their names, and what society-office asks of Debian's Python.
 PROGRAMS = ["curl", "nginx", "openssl", "sqlite3"]
