@@ -1,4 +1,4 @@
-"""How open places are read that the bytes of requests show: docs/RULES.md, 'Where a rule leaves a choice', row by row in its order.
+"""How open places are read that the bytes of requests show; docs/RULES.md, 'Where a rule leaves a choice', says what senders meet of it.
 
 A row has a name, the requests, the statuses of their answers in order, and how the last body ends. Each row is asked of an office to which
 nothing has come.
