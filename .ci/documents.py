@@ -1,20 +1,20 @@
 #!/usr/bin/env python3
-"""Whether docs/TOUR.md, docs/MAP.md, CONTRIBUTING.md and office/README.md speak of what is there.
+"""Whether docs/TOUR.md, docs/MAP.md, docs/PROMISES.md, CONTRIBUTING.md and office/README.md speak of what is there.
 
     .ci/documents.py     a line for each thing that is not there; status 1 where there is one
 
 Of TOUR each part under a heading, and each step, is read by itself: every path in backquotes has to be there, every other word in backquotes has
 to stand in one of the files that the part names, and a word in parentheses behind a function in that function's contract there.
 Of CONTRIBUTING each path in backquotes has to be there; in a row of a list that begins with a crate's name, in that crate. `{a,b}` stands for
-both, `NAME` for any name. Of MAP each file of specs/ in parentheses has to be there. The list of office/README.md has each folder of
-society-office once, and no other. The gate runs this (.ci/timed.py).
+both, `NAME` for any name. Of MAP each file of specs/ in parentheses has to be there. Of PROMISES each word in backquotes has to stand in src/ or
+specs/ of some crate. The list of office/README.md has each folder of society-office once, and no other. The gate runs this (.ci/timed.py).
 """
 import pathlib
 import re
 import sys
 
 TOP = pathlib.Path(__file__).resolve().parent.parent
-TOUR, MAP, CONTRIBUTING, OFFICE = "docs/TOUR.md", "docs/MAP.md", "CONTRIBUTING.md", "office/README.md"
+TOUR, MAP, PROMISES, CONTRIBUTING, OFFICE = "docs/TOUR.md", "docs/MAP.md", "docs/PROMISES.md", "CONTRIBUTING.md", "office/README.md"
 MODULES = TOP / "office/society_office"
 QUOTED = re.compile(r"`([^`\n]+)`")
 WORD = re.compile(r"[A-Za-z]\w*(?:\.\w+)*")
@@ -88,6 +88,13 @@ def faults_of_map(text):
             yield from (f"{MAP}: there is no {it}" for it in absent(path))
 
 
+def faults_of_promises(text):
+    sources = [*TOP.glob("crates/*/src/**/*.rt"), *TOP.glob("crates/*/specs/**/*.antt")]
+    known = {word for it in sources for word in re.findall(r"\w+", it.read_text(encoding="utf-8"))}
+    named = {word for it in QUOTED.findall(text) if re.fullmatch(r"\w+(::\w+)*", it) for word in it.split("::")}
+    yield from (f"{PROMISES}: no crate has the word {it}" for it in sorted(named - known))
+
+
 def faults_of_office(text):
     named = re.findall(r"^- \*\*(\w+)/\*\*", text, re.M)
     there = [it.name for it in MODULES.iterdir() if any(it.glob("*.py"))]
@@ -97,7 +104,8 @@ def faults_of_office(text):
 
 def faults():
     """A line for each thing of which the documents speak and that is not there."""
-    for name, read in ((TOUR, faults_of_tour), (MAP, faults_of_map), (CONTRIBUTING, faults_of_contributing), (OFFICE, faults_of_office)):
+    readers = faults_of_tour, faults_of_map, faults_of_promises, faults_of_contributing, faults_of_office
+    for name, read in zip((TOUR, MAP, PROMISES, CONTRIBUTING, OFFICE), readers):
         if not (TOP / name).is_file():
             yield f"{name}: is not there"
         else:
@@ -108,7 +116,7 @@ def check():
     """Tells each fault; gives how many documents passed, and how many faults there were."""
     found = list(faults())
     print(*found, f"documents: {len(found)} names, paths and clauses that are not there", sep="\n", flush=True)
-    return 4 - len({it.split(":")[0] for it in found}), len(found)
+    return 5 - len({it.split(":")[0] for it in found}), len(found)
 
 
 if __name__ == "__main__":
