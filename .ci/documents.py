@@ -1,5 +1,5 @@
 #!/usr/bin/env python3
-"""Whether docs/TOUR.md, docs/MAP.md, docs/PROMISES.md, CONTRIBUTING.md and office/README.md speak of what is there.
+"""Whether docs/TOUR.md, docs/MAP.md, docs/PROMISES.md and CONTRIBUTING.md speak of what is there.
 
     .ci/documents.py     a line for each thing that is not there; status 1 where there is one
 
@@ -7,15 +7,14 @@ Of TOUR each part under a heading, and each step, is read by itself: every path 
 to stand in one of the files that the part names, and a word in parentheses behind a function in that function's contract there.
 Of CONTRIBUTING each path in backquotes has to be there; in a row of a list that begins with a crate's name, in that crate. `{a,b}` stands for
 both, `NAME` for any name. Of MAP each file of specs/ in parentheses has to be there. Of PROMISES each word in backquotes has to stand in src/ or
-specs/ of some crate. The list of office/README.md has each folder of society-office once, and no other. The gate runs this (.ci/timed.py).
+specs/ of some crate. The gate runs this (.ci/timed.py).
 """
 import pathlib
 import re
 import sys
 
 TOP = pathlib.Path(__file__).resolve().parent.parent
-TOUR, MAP, PROMISES, CONTRIBUTING, OFFICE = "docs/TOUR.md", "docs/MAP.md", "docs/PROMISES.md", "CONTRIBUTING.md", "office/README.md"
-MODULES = TOP / "office/society_office"
+TOUR, MAP, PROMISES, CONTRIBUTING = "docs/TOUR.md", "docs/MAP.md", "docs/PROMISES.md", "CONTRIBUTING.md"
 QUOTED = re.compile(r"`([^`\n]+)`")
 WORD = re.compile(r"[A-Za-z]\w*(?:\.\w+)*")
 PATH = re.compile(r"[\w.{},-]+(?:/[\w.{},-]+)*/?")
@@ -95,17 +94,10 @@ def faults_of_promises(text):
     yield from (f"{PROMISES}: no crate has the word {it}" for it in sorted(named - known))
 
 
-def faults_of_office(text):
-    named = re.findall(r"^- \*\*(\w+)/\*\*", text, re.M)
-    there = [it.name for it in MODULES.iterdir() if any(it.glob("*.py"))]
-    yield from (f"{OFFICE}: there is no {it} in {MODULES.relative_to(TOP)}/" for it in sorted(set(named) - set(there)))
-    yield from (f"{OFFICE}: has not {it} once" for it in sorted(there) if named.count(it) != 1)
-
-
 def faults():
     """A line for each thing of which the documents speak and that is not there."""
-    readers = faults_of_tour, faults_of_map, faults_of_promises, faults_of_contributing, faults_of_office
-    for name, read in zip((TOUR, MAP, PROMISES, CONTRIBUTING, OFFICE), readers):
+    readers = faults_of_tour, faults_of_map, faults_of_promises, faults_of_contributing
+    for name, read in zip((TOUR, MAP, PROMISES, CONTRIBUTING), readers):
         if not (TOP / name).is_file():
             yield f"{name}: is not there"
         else:
@@ -116,7 +108,7 @@ def check():
     """Tells each fault; gives how many documents passed, and how many faults there were."""
     found = list(faults())
     print(*found, f"documents: {len(found)} names, paths and clauses that are not there", sep="\n", flush=True)
-    return 5 - len({it.split(":")[0] for it in found}), len(found)
+    return 4 - len({it.split(":")[0] for it in found}), len(found)
 
 
 if __name__ == "__main__":
