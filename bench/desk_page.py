@@ -8,13 +8,14 @@ works and 60 senders; one of 5,000 files; and a page whose senders.json is broke
 and an order are sent by the form, and no table may be wider than the screen. What hands, eyes and readers of screens need is checked on
 each page: names, borders and texts that can be seen, headings, tables, the skip link, the length. Then the nightly pages and a sender's own
 statement are opened through the proxy, where they have to have their style. Before all that examples/desk/faults.json
-is compared with the tables of docs/FAULTS.md, of which it is made (`--write-faults` makes it anew). Ends with status 1 where anything
+is compared with the lists of docs/FAULTS.md, of which it is made (`--write-faults` makes it anew). Ends with status 1 where anything
 differs.
 """
 import base64
 import json
 import os
 import pathlib
+import re
 import shutil
 import socket
 import subprocess
@@ -36,24 +37,18 @@ NO_OFFICE = "The office does not run, or it ended while this was asked: start it
 FAULT_KINDS = {"File": "file", "Transaction": "transaction", "Return": "return", "Order": "order"}
 
 
-# Faults in words.
-def cells(line):
-    return [it.strip().replace("`", "") for it in line.strip().strip("|").split("|")]
+# Faults in words: number and line, what it means and an example, the cure.
+FAULT = re.compile(r"- (\d+)(?: \([^()]*\))?: ([^()]*?)(?: \([^()]*\))? → (.*)")
 
 
 def faults_of(text):
-    """What each fault means and its cure, by kind and number, from the tables of docs/FAULTS.md."""
-    found, kind, heads = {}, None, None
-    for line in text.splitlines():
+    """What each fault means and its cure, by kind and number, from the lists of docs/FAULTS.md."""
+    found, kind = {}, None
+    for line in text.replace("`", "").replace("\n  ", " ").splitlines():
         if line.startswith("## "):
-            kind, heads = FAULT_KINDS.get(line.split()[1]), None
-        elif kind and line.startswith("|"):
-            row = cells(line)
-            if heads is None:
-                heads = row
-            elif row[0].isdigit():
-                named = dict(zip(heads, row))
-                found.setdefault(kind, {})[row[0]] = {"means": named["Means"], "cure": named["Cure"]}
+            kind = FAULT_KINDS.get(line.split()[1])
+        elif kind and (it := FAULT.fullmatch(line)):
+            found.setdefault(kind, {})[it[1]] = {"means": it[2], "cure": it[3]}
     return found
 
 
