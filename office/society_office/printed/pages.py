@@ -61,7 +61,17 @@ def environment() -> jinja2.Environment:
 @functools.cache
 def style() -> str:
     """The style sheet, for a page that stands alone."""
-    return (TEMPLATES / "office.css").read_text()
+    return text_beside("office.css")
+
+
+def text_beside(name: str) -> str:
+    """A text that stands beside the templates."""
+    return (TEMPLATES / name).read_text()
+
+
+def numbered(name: str, count: int, most: int) -> list[str]:
+    """The names of the pages of so many rows, so many on each; the first one has no number."""
+    return [f"{name}{'' if k == 0 else f'-{k + 1}'}.html" for k in range(max(1, -(-count // most)))]
 
 
 def page(template: str, /, **values: Any) -> str:
@@ -191,6 +201,20 @@ def new_folder(target: pathlib.Path, is_own: Callable[[str], bool]) -> Iterator[
     finally:
         for left in (draft, old):
             shutil.rmtree(left, ignore_errors=True)
+
+
+def write_new(folder: pathlib.Path, files: Iterable[tuple[str, str]]) -> int:
+    """Writes texts under their names into a new folder, which nobody reads yet; answers how many."""
+    made = set[pathlib.Path]()
+    count = 0
+    for name, text in files:
+        place = folder / name
+        if place.parent not in made:
+            place.parent.mkdir(parents=True, exist_ok=True)
+            made.add(place.parent)
+        place.write_text(text)
+        count += 1
+    return count
 
 
 def write_all(folder: pathlib.Path, files: Iterable[tuple[str, str]]) -> int:

@@ -23,6 +23,7 @@ from society_office.formats.plays import points
 from society_office.formats.pool_names import PoolNames
 from society_office.formats.return_names import Entry, are_listed
 from society_office.printed import pages, pictures
+from society_office.printed.work_pages import WorkPages
 from society_office.works.records import UNCLAIMED, sender_names
 
 # What a page shows at most: unclaimed recordings of a pool, accounts of a pool, rejected works of a group, rows of a page of balances.
@@ -30,9 +31,13 @@ MOST_UNCLAIMED, MOST_ACCOUNTS, MOST_REJECTED, PER_PAGE = 40, 40, 50, 500
 PART_OF = {Cause.SHARE: "share", Cause.CONFLICT: "conflict"}
 # The names of pages.
 DESK = "desk.json"
-PAGE = re.compile(r"office\.css|desk\.json|(balances|rejected)\.csv|[a-z]+(-[0-9]+)?\.html|(senders|pools)/[0-9A-Z]+\.html|\..*\.new")
+PAGE = re.compile(
+    r"office\.css|works\.js|desk\.json|(balances|rejected)\.csv|[a-z]+(-[0-9]+)?\.html|(senders|pools)/[0-9A-Z]+\.html|\..*\.new"
+    r"|works/[0-9A-Z]{11}(-[0-9]+)?\.html|works/[0-9A-Z]{11}/[0-9A-Za-z-]+\.html|find/[a-z0-9]+\.js"
+)
 MENU = [
     ("index.html", "Overview"),
+    ("works.html", "Works"),
     ("senders.html", "Senders"),
     ("rejected.html", "Rejected works"),
     ("pools.html", "Pools"),
@@ -193,6 +198,8 @@ class Site:
         yield from self.station_files()
         yield from self.balance_files()
         self.progress("stations and balances")
+        yield from WorkPages(self.copy, self.page).files()
+        self.progress("works")
 
     def desk(self) -> str:
         """What the desk knows the office by: all senders with their names, and all reporters."""
@@ -263,7 +270,7 @@ class Site:
         """The balances, in pages of so many, and all of them as CSV."""
         found = self.balances()
         yield "balances.csv", as_csv(["account", "name", "units"], ((plain(account), plain(name), units) for account, name, units in found))
-        names = [f"balances{'' if k == 0 else f'-{k + 1}'}.html" for k in range(max(1, -(-len(found) // PER_PAGE)))]
+        names = pages.numbered("balances", len(found), PER_PAGE)
         total, amounts = sum(it[2] for it in found), sum(it.amount for it in self.pools)
         for k, own in enumerate(names):
             rows = found[k * PER_PAGE : (k + 1) * PER_PAGE]
@@ -290,4 +297,4 @@ def as_csv(header: list[str], rows: Iterable[Sequence[object]]) -> str:
 def write_site(copy: Copy, into: pathlib.Path, void: Sequence[Entry], pool_names: PoolNames, progress: Callable[[str], None]) -> int:
     """Writes all pages into a folder, in the place of all that were there; answers how many files it wrote."""
     with pages.locked(into.resolve()), pages.new_folder(into, lambda name: PAGE.fullmatch(name) is not None) as folder:
-        return pages.write_all(folder, Site(copy, void, pool_names, progress).files())
+        return pages.write_new(folder, Site(copy, void, pool_names, progress).files())

@@ -128,6 +128,11 @@ class Gathered:
         if state == ACCEPTED or not self.is_registered:
             self.title, self.is_registered = title, state == ACCEPTED
 
+    @property
+    def facts(self) -> Facts:
+        """What it is found by."""
+        return Facts(self.words, self.numbers - {""})
+
 
 def sent_works(copy: Copy) -> Iterator[Sent]:
     """All works of which anything was sent, sender by sender; each file is read once."""
@@ -139,7 +144,7 @@ def sent_works(copy: Copy) -> Iterator[Sent]:
                 of_work = gathered.setdefault(sent.work, Gathered())
                 of_work.add(line.sender, Place(number, k), sent, verdicts.of(number, k).state)
         for work, it in gathered.items():
-            yield Sent(line.sender, work, it.places, it.title, Facts(it.words, it.numbers - {""}))
+            yield Sent(line.sender, work, it.places, it.title, it.facts)
 
 
 def told(copy: Copy, wanted: Sequence[tuple[str, str, Sequence[Place]]]) -> list[Work]:

@@ -52,8 +52,9 @@ def test_the_pages(copy: pathlib.Path, tmp_path: pathlib.Path, decided: pathlib.
     pages = {str(it.relative_to(folder)): it.read_text() for it in folder.rglob("*.html")}
     assert {f"senders/{it}.html" for it in quarter.NAMES} | {f"pools/{it.pool}.html" for it in quarter.POOLS} <= set(pages)
     for name, page in pages.items():
-        assert "<script" not in page and "style=" not in re.sub(r'style="(width|margin-top): [\d.]+(%|rem)"', "", page), name
-        for target in re.findall(r'href="([^"#:]+)"', page):
+        assert ("<script" in page) == ("script-src" in page) == (name == "works.html"), name
+        assert "style=" not in re.sub(r'style="(width|margin-top): [\d.]+(%|rem)"', "", page), name
+        for target in re.findall(r'(?:href|src)="([^"#:?]+)[?"]', page):
             assert (folder / name).parent.joinpath(target).resolve().exists(), (name, target)
         assert "<SONG>" not in page
         for head in re.findall(r"<th\b[^>]*>", page):
