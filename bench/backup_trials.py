@@ -1,4 +1,4 @@
-#!/usr/bin/env python3
+#!/usr/bin/python3
 """Tries society-backup and society-restore on a running office: what they leave, and that the office is never left halted.
 
 A backup is made under load, over an office that is down, into a full disk (a small tmpfs; as root), killed in the middle, by signals
@@ -9,6 +9,8 @@ that is given, two at once, beside a backup, on a new machine, stopped in the mi
 """
 import contextlib
 import grp
+import http.client
+import json
 import os
 import pathlib
 import random
@@ -23,7 +25,10 @@ import threading
 import time
 
 import common
-from common import NO_WORKS, OFFICE, ROOT, SENDER
+import measured
+import served
+from bodies import NO_WORKS, SENDER
+from served import OFFICE, ROOT
 from society_office.book import page_sums
 
 BACKUP, RESTORE = ROOT / "debian/bin/society-backup", ROOT / "debian/bin/society-restore"
@@ -91,7 +96,7 @@ class Office:
     """An office in a folder of its own, with folders for backups and for stand-ins of programs."""
 
     def __init__(self, program, folder):
-        self.program, self.folder, self.port = program, folder, common.free_port()
+        self.program, self.folder, self.port = program, folder, served.free_port()
         self.home, self.copies, self.tools = folder / "home", folder / "copies", folder / "tools"
         for it in self.home, self.tools:
             it.mkdir()
@@ -120,18 +125,18 @@ class Office:
         self.process.wait()
 
     def asked(self, method, path, body=None, timeout=120):
-        with contextlib.closing(common.http.client.HTTPConnection("127.0.0.1", self.port, timeout=timeout)) as connection:
-            return common.ask(connection, method, path, body)
+        with contextlib.closing(http.client.HTTPConnection("127.0.0.1", self.port, timeout=timeout)) as connection:
+            return served.ask(connection, method, path, body)
 
     def front(self):
-        return common.json.loads(self.asked("GET", f"/v1/senders/{SENDER}", timeout=10)[1])["front"]
+        return json.loads(self.asked("GET", f"/v1/senders/{SENDER}", timeout=10)[1])["front"]
 
     def send(self, count=1):
         """Sends the next files; what got no answer is sent again."""
         for _ in range(count):
             try:
                 status, text = self.asked("PUT", f"{PATH}/{self.sent + 1}", NO_WORKS)
-            except common.http.client.RemoteDisconnected:
+            except http.client.RemoteDisconnected:
                 self.unanswered += 1
                 status, text = self.asked("PUT", f"{PATH}/{self.sent + 1}", NO_WORKS)
             assert status in (200, 201), text
@@ -469,9 +474,9 @@ def killed_at_each_step(office, copy):
         status, _, err = office.restored("--from", copy, "--service", "none")
         if not (office.tools / "killed").exists():
             break
-        with common.Server(office.program, office.database) as server, contextlib.closing(server.connection()) as it:
-            front = common.json.loads(common.ask(it, "GET", f"/v1/senders/{SENDER}")[1])["front"]
-            found.append((front, common.ask(it, "PUT", *RETURN)[0]))
+        with measured.Server(office.program, office.database) as server, contextlib.closing(server.connection()) as it:
+            front = json.loads(served.ask(it, "GET", f"/v1/senders/{SENDER}")[1])["front"]
+            found.append((front, served.ask(it, "PUT", *RETURN)[0]))
     for name in names:
         (office.tools / name).unlink()
     older, newer = (4, 201), (6, 200)

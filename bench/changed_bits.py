@@ -1,4 +1,4 @@
-#!/usr/bin/env python3
+#!/usr/bin/python3
 """Changes bits of an office's file, one at a time, and looks whether each is found: in a file with page sums and in one without.
 
 An office is filled and its file joined with its log, some 5 MB; out of it come a file with sums and one without. In each, bits are changed
@@ -20,7 +20,10 @@ import tempfile
 import threading
 
 import common
-from common import OFFICE, Server
+import bodies
+import measured
+from measured import Server
+from served import OFFICE
 from society_office.book import book_log, page_sums
 
 SENDERS, FILES, WORKS, POOLS = 5, 16, 50, 5
@@ -36,10 +39,10 @@ def all_puts():
     """What fills the office: files of several senders, returns, and pools over the whole lines."""
     for k in range(SENDERS):
         for n in range(FILES):
-            yield f"/v1/senders/{sender(k)}/transmissions/{n + 1}", common.works_file((k * FILES + n) * WORKS, WORKS, sender(k))
+            yield f"/v1/senders/{sender(k)}/transmissions/{n + 1}", bodies.works_file((k * FILES + n) * WORKS, WORKS, sender(k))
     for n in range(1, POOLS + 1):
-        yield f"/v1/returns/RADIO1/{n}", common.plays(n, 40, n * 100)
-        yield f"/v1/pools/{n}", common.order_body(1_000_000, [[sender(k), FILES] for k in range(SENDERS)], [["RADIO1", n]])
+        yield f"/v1/returns/RADIO1/{n}", bodies.plays(n, 40, n * 100)
+        yield f"/v1/pools/{n}", bodies.order_body(1_000_000, [[sender(k), FILES] for k in range(SENDERS)], [["RADIO1", n]])
 
 
 def requests():
@@ -51,7 +54,7 @@ def requests():
         paths += [f"{where}/works/W{n}" for n in range(k * FILES * WORKS, (k + 1) * FILES * WORKS)]
     paths += [f"/v1/pools/{n}" for n in range(1, POOLS + 2)]
     paths += [f"/v1/accounts/{it}" for it in ("I00000000199", "I00000000295", "UNCLAIMED")]
-    return common.get(*paths) + b"".join(common.request("PUT", where, body) for where, body in all_puts())
+    return bodies.get(*paths) + b"".join(bodies.request("PUT", where, body) for where, body in all_puts())
 
 
 def answers(server, stream):
@@ -87,7 +90,7 @@ def outcome(program, path, stream, right):
 def made(program, folder):
     """The file of the office with sums, and the one without."""
     office, one, summed, plain = (folder / f"{it}.db" for it in ("office", "one", "with sums", "without sums"))
-    common.filled(program, office, all_puts())
+    measured.filled(program, office, all_puts())
     book_log.join(office, office.with_name("office.db-wal"), one)
     page_sums.write_with_sums(one, summed)
     page_sums.copy_tables(one, plain)

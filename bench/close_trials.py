@@ -1,4 +1,4 @@
-#!/usr/bin/env python3
+#!/usr/bin/python3
 """Kills `society-office close` at random moments, before an office that hangs, breaks off, or answers 404, 409, 503, a page or garbage.
 
 In each round a return comes, or the office itself writes one, a copy is made, and an order over it is closed: a first call is killed, half
@@ -20,7 +20,10 @@ import threading
 import time
 
 import common
-from common import ROOT, SENDER, Server, order_body, plays, works_file
+import served
+from bodies import SENDER, order_body, plays, works_file
+from measured import Server
+from served import ROOT
 
 sys.path[:0] = [str(ROOT / "office"), str(ROOT / "office/tests")]
 import odd_office  # noqa: E402 (the folders of the checkout come first)
@@ -98,7 +101,7 @@ class Trial:
 
     def begin_way(self):
         """Starts the process of the way; its id and its port."""
-        port = common.free_port()
+        port = served.free_port()
         child = os.fork()
         if child == 0:
             Way.file, Way.office, Way.seconds = self.control, f"http://127.0.0.1:{self.server.port}", 0.3
@@ -113,12 +116,12 @@ class Trial:
 
     def put(self, path, body):
         with contextlib.closing(self.server.connection()) as it:
-            status, text = common.ask(it, "PUT", path, body)
+            status, text = served.ask(it, "PUT", path, body)
         assert status == 201, (path, status, text)
 
     def get(self, path):
         with contextlib.closing(self.server.connection()) as it:
-            return common.ask(it, "GET", path)
+            return served.ask(it, "GET", path)
 
     def write_order(self, number, paid):
         self.order.write_bytes(order_body(1_000 + number, [[SENDER, 1]], [paid]))

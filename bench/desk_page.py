@@ -1,4 +1,4 @@
-#!/usr/bin/env python3
+#!/usr/bin/python3
 """Tries the page for staff (examples/desk) in headless Chromium, at 1,200 and at 400 pixels, and takes pictures of it.
 
 The program serves a new database; nginx stands before it with examples/nginx.conf, only the ports changed, and the page beside the
@@ -24,7 +24,10 @@ import tempfile
 import time
 
 import common
-from common import FIRST, NO_WORKS, ROOT, Server, changed, order_body, plays, works_file
+import served
+from bodies import FIRST, NO_WORKS, changed, order_body, plays, works_file
+from measured import Server
+from served import ROOT
 from desk_access import ACCESS, named_buttons
 from proxy import PAGE, SECRET, Proxy
 
@@ -56,7 +59,7 @@ def check_faults(write):
     """Compares the page's faults with those of the document, or writes them."""
     wanted = json.dumps(faults_of((ROOT / "docs/FAULTS.md").read_text()), indent=2, ensure_ascii=False) + "\n"
     if write:
-        for folder in (PAGE, common.ROOT / "office/society_office/checks"):
+        for folder in (PAGE, served.ROOT / "office/society_office/checks"):
             (folder / "faults.json").write_text(wanted)
     check("faults.json", (PAGE / "faults.json").read_text() == wanted, "is not what docs/FAULTS.md says: make it anew by --write-faults")
 
@@ -148,7 +151,7 @@ def chromium():
 def put_all(server, puts):
     connection = server.connection()
     for path, body in puts:
-        status, text = common.ask(connection, "PUT", path, body)
+        status, text = served.ask(connection, "PUT", path, body)
         assert status in (201, 202), (path, status, text)
     connection.close()
 

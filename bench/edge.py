@@ -1,4 +1,4 @@
-#!/usr/bin/env python3
+#!/usr/bin/python3
 """Tries what examples/nginx.conf lets through: who may ask for which path, however it is written, and a long answer to a slow reader.
 
 nginx runs with the example, only its ports changed, before the program over a new database; where this is root, nginx runs as the
@@ -17,8 +17,10 @@ import tempfile
 import time
 
 import common
+import served
 import edge_limits
-from common import CSV_HEADER, FIRST, MAX_BODY, Server, changed, isrc, order_body
+from bodies import CSV_HEADER, FIRST, MAX_BODY, changed, isrc, order_body
+from measured import Server
 from edge_asking import FIRST_SENDER as OWN
 from edge_asking import OFFICE, OTHER_SENDER as OTHER, READER, asked, connected, head_of
 from proxy import Proxy
@@ -159,12 +161,12 @@ def close_long_pool(server):
     connection = server.connection()
     for number in range(1, 17):
         rows = b"".join(b"%s,1,%d\n" % (isrc(k), k % 300 + 1) for k in range(10_000 * number, 10_000 * (number + 1)))
-        status, text = common.ask(connection, "PUT", f"/v1/returns/RADIO9/{number}", CSV_HEADER + rows)
+        status, text = served.ask(connection, "PUT", f"/v1/returns/RADIO9/{number}", CSV_HEADER + rows)
         assert status == 201, text
     order = order_body(10**11, [], [["RADIO9", it] for it in range(1, 17)])
-    status, text = common.ask(connection, "PUT", "/v1/pools/9", order)
+    status, text = served.ask(connection, "PUT", "/v1/pools/9", order)
     assert status == 201, text
-    table = common.ask(connection, "GET", "/v1/pools/9")[1]
+    table = served.ask(connection, "GET", "/v1/pools/9")[1]
     connection.close()
     return table
 
@@ -211,7 +213,7 @@ def try_planted(cases, started):
 def add_works(server):
     connection = server.connection()
     for sender in OWN, OTHER:
-        status, text = common.ask(connection, "PUT", f"/v1/senders/{sender}/transmissions/1", changed(FIRST, 1, 4, sender.encode()))
+        status, text = served.ask(connection, "PUT", f"/v1/senders/{sender}/transmissions/1", changed(FIRST, 1, 4, sender.encode()))
         assert status == 201, text
     connection.close()
 

@@ -1,4 +1,4 @@
-#!/usr/bin/env python3
+#!/usr/bin/python3
 """Closes the pool of the most credits that a sender's file of 1 MiB can bring about: one work with 200 recordings and 31,000 parties.
 
 It is closed in an office's file, and the file is audited. Printed are the seconds and the most memory of both, and how long the file and its
@@ -16,12 +16,15 @@ import threading
 import time
 
 import common
-from common import OFFICE, SENDER, ask
-from hostile_bodies import parties_and_recordings, returns_of
+import bodies
+import measured
+from bodies import SENDER
+from served import OFFICE, ask
+from lines import parties_and_recordings, returns_of
 
 RECORDINGS, PARTIES = 200, 31_000
 AMOUNT, POOL = 10**12, "/v1/pools/1"
-ORDER = common.order_body(AMOUNT, [[SENDER, 1]], [["RADIO1", 1]])
+ORDER = bodies.order_body(AMOUNT, [[SENDER, 1]], [["RADIO1", 1]])
 MOST_MEMORY = 300
 # Where no file may be longer, in bytes: the log of the pool's rows alone is.
 SMALL = 64 * 1_000_000
@@ -58,7 +61,7 @@ class Longest(threading.Thread):
 
 def closed(program, office, status):
     """Asks an office to close the pool: the seconds, the most memory in MB, and how long the log became."""
-    with common.Server(program, office) as server:
+    with measured.Server(program, office) as server:
         connection, log = server.connection(), Longest(f"{office}-wal")
         log.start()
         begun = time.monotonic()
@@ -66,7 +69,7 @@ def closed(program, office, status):
         seconds = time.monotonic() - begun
         log.over.set()
         log.join()
-        return seconds, common.peak_memory(server.process.pid), log.most
+        return seconds, measured.peak_memory(server.process.pid), log.most
 
 
 def audited(program, office):
@@ -85,11 +88,11 @@ def main():
     with tempfile.TemporaryDirectory() as folder:
         office = pathlib.Path(folder) / "office.db"
         file = f"/v1/senders/{SENDER}/transmissions/1", parties_and_recordings(RECORDINGS, PARTIES)
-        common.filled(program, office, [file, ("/v1/returns/RADIO1/1", returns_of(RECORDINGS))])
+        measured.filled(program, office, [file, ("/v1/returns/RADIO1/1", returns_of(RECORDINGS))])
         limited = on_a_small_disk(folder, program)
         for _ in range(2):
             closed(limited, office, 503)
-        with common.Server(limited, office) as server:
+        with measured.Server(limited, office) as server:
             wanted("the pool on a full disk", ask(server.connection(), "GET", POOL)[0], 404)
         audited(program, office)
         print(f"where no file may be longer than {SMALL // 1_000_000} MB: 503, and the book as before", flush=True)

@@ -1,4 +1,4 @@
-#!/usr/bin/env python3
+#!/usr/bin/python3
 """Measures how the time of streams and of starts grows with their size: each at two sizes, with the exponent.
 
 An exponent of 1 is time that grows as the size does, 2 as its square. Streams go through `society replay`, over tables in memory; of
@@ -12,7 +12,10 @@ import random
 import tempfile
 
 import common
-from common import REVISION, FIRST, SENDER, Server, get, plays, put_file, put_pool, put_return, works_file
+import measured
+import served
+from bodies import REVISION, FIRST, SENDER, get, plays, put_file, put_pool, put_return, works_file
+from measured import Server
 
 PATH = f"/v1/senders/{SENDER}"
 
@@ -114,12 +117,12 @@ def started(program, files):
         with Server(program, path) as server:
             connection = server.connection()
             for name, number, body in files:
-                status, text = common.ask(connection, "PUT", f"/v1/senders/{name}/transmissions/{number}", body)
+                status, text = served.ask(connection, "PUT", f"/v1/senders/{name}/transmissions/{number}", body)
                 assert status == 201, (name, number, status, text)
             before = held_memory(server.process.pid)
         with Server(program, path) as server:
             pid = server.process.pid
-            return server.processor, common.peak_memory(pid), before, held_memory(pid)
+            return server.processor, measured.peak_memory(pid), before, held_memory(pid)
 
 
 def main():
@@ -136,7 +139,7 @@ def main():
         for part in 3, 1:
             stream, count = stream_of(max(3, int(most * options.scale) // part))
             sizes.append(count)
-            runs.append(common.least_of(options.program, stream, options.runs, 20))
+            runs.append(measured.least_of(options.program, stream, options.runs, 20))
         cells = [f"{size:,} | {run.processor:.2f} | {run.peak:.1f}" for size, run in zip(sizes, runs)]
         print(f"| {name} | {' | '.join(cells)} | {exponent(sizes, [it.processor for it in runs])} |", flush=True)
     for name, (files_of, most) in STARTS.items():

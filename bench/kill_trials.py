@@ -1,4 +1,4 @@
-#!/usr/bin/env python3
+#!/usr/bin/python3
 """Kills `society serve --db` at random moments under load, starts it again and asks for what was answered.
 
 One peer sends files of works (in order, after gaps, again), returns and orders that close pools, and keeps of each request the
@@ -12,7 +12,10 @@ import subprocess
 import sys
 
 import common
-from common import Server, order_body, plays, works_file
+import measured
+import served
+from bodies import order_body, plays, works_file
+from measured import Server
 
 ADDED = (201, 202)
 SAMPLE = 200
@@ -46,7 +49,7 @@ def load(server, chance, fronts, counts, answered):
     while True:
         path, body = next_request(chance, fronts, counts)
         try:
-            status, _ = common.ask(connection, "PUT", path, body)
+            status, _ = served.ask(connection, "PUT", path, body)
         except (OSError, http.client.HTTPException):
             return path, body
         if status not in ADDED:
@@ -63,7 +66,7 @@ def checked(server, requests):
     """How many requests are there: each is sent again and answered 200."""
     connection = server.connection()
     for path, body in requests:
-        status, _ = common.ask(connection, "PUT", path, body)
+        status, _ = served.ask(connection, "PUT", path, body)
         if status != 200:
             sys.exit(f"lost: {path} is answered {status}")
     connection.close()
@@ -73,7 +76,7 @@ def checked(server, requests):
 def is_kept(server, path, body):
     """Sends the request that was cut off again; whether it is there. Else it is added now."""
     connection = server.connection()
-    status, _ = common.ask(connection, "PUT", path, body)
+    status, _ = served.ask(connection, "PUT", path, body)
     connection.close()
     if status not in (200, *ADDED):
         sys.exit(f"cut off: {path} is answered {status}")
@@ -87,7 +90,7 @@ def main():
     options.add_argument("--longest", type=float, default=0.4, help="most seconds of load before a kill (default: 0.4)")
     options.add_argument("file", nargs="?", help="the database (default: a new one)")
     options = options.parse_args()
-    path = options.file or common.new_database()
+    path = options.file or measured.new_database()
     print(f"database: {path}")
     chance, fronts, answered, kept = random.Random(options.seed), {}, [], 0
     counts = {"return": 0, "paid": 0, "pool": 0} | {it: 0 for it in SENDERS}

@@ -1,4 +1,4 @@
-#!/usr/bin/env python3
+#!/usr/bin/python3
 """Sends long streams to `society replay`, and looks whether every answer is the right one and the memory stays.
 
 A stream of 1,000,000 questions and repeated puts over one connection: the program's memory at the end is no more than after
@@ -12,7 +12,8 @@ import threading
 import time
 
 import common
-from common import CSV_HEADER, FIRST, NO_WORKS, SENDER, get, put_file, put_pool, put_return
+import served
+from bodies import CSV_HEADER, FIRST, NO_WORKS, SENDER, get, put_file, put_pool, put_return
 
 PATH = f"/v1/senders/{SENDER}"
 
@@ -22,7 +23,7 @@ class Replay:
 
     def __init__(self, program):
         pipes = {"stdin": subprocess.PIPE, "stdout": subprocess.PIPE}
-        self.process = subprocess.Popen([program, "replay", *common.OFFICE], **pipes)
+        self.process = subprocess.Popen([program, "replay", *served.OFFICE], **pipes)
 
     def ask(self, stream, rounds, size):
         """Sends a stream again and again, and compares the bytes that are written, as many in each round, with the first round's."""
@@ -64,8 +65,8 @@ ROUND = QUESTIONS + put_file(FIRST) + put_file(NO_WORKS) + put_return(PLAYS) + O
 
 
 def a_million_requests(program):
-    setting = common.replay(program, SETTING)
-    size = len(common.replay(program, SETTING + ROUND)) - len(setting)
+    setting = served.replay(program, SETTING)
+    size = len(served.replay(program, SETTING + ROUND)) - len(setting)
     replay = Replay(program)
     replay.ask(SETTING, 1, len(setting))
     begun = time.monotonic()

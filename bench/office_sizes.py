@@ -1,4 +1,4 @@
-#!/usr/bin/env python3
+#!/usr/bin/python3
 """Measures offices of many works in a file: the file's size, starts, puts, a pool over all works, and memory.
 
 An office is filled over one kept connection: by small files of one work each, or by files of 800 works, of as many senders as are
@@ -12,7 +12,10 @@ import tempfile
 import time
 
 import common
-from common import Server, order_body, plain_number, plays, works_file
+import measured
+import served
+from bodies import order_body, plain_number, plays, works_file
+from measured import Server
 
 PER_FILE = 800
 # Numbers of transmissions go to 999,999; a sender of these offices sends no more files than this.
@@ -63,7 +66,7 @@ class Meter:
 
     def since(self):
         """Processor seconds and the seconds that passed."""
-        passed, processor = time.monotonic(), common.processor_seconds(self.server.process.pid)
+        passed, processor = time.monotonic(), measured.processor_seconds(self.server.process.pid)
         found = processor - self.processor, passed - self.passed
         self.passed, self.processor = passed, processor
         return found
@@ -77,31 +80,31 @@ def fill(server, path, works, per_file, number_of, steps):
         sender, number = sender_of(file)
         count = min(per_file, works - file * per_file)
         where = f"/v1/senders/{sender}/transmissions/{number}"
-        status, text = common.ask(connection, "PUT", where, works_file(file * per_file, count, sender, number_of))
+        status, text = served.ask(connection, "PUT", where, works_file(file * per_file, count, sender, number_of))
         assert status == 201, (where, status, text)
         if (file + 1) * steps // files > file * steps // files:
             processor, passed = meter.since()
             sent, there = files / steps, min(works, (file + 1) * per_file)
             rates = f"{sent / processor:,.0f} puts and {sent * per_file / processor:,.0f} works a second of processor, {passed:.0f} s passed"
-            print(f"  {there:,} works: {size_of(path) / 1e6:,.0f} MB, {rates}, memory {common.peak_memory(pid):,.0f} MB", flush=True)
+            print(f"  {there:,} works: {size_of(path) / 1e6:,.0f} MB, {rates}, memory {measured.peak_memory(pid):,.0f} MB", flush=True)
     connection.close()
     return files
 
 
 def report_start(server, path):
-    memory = common.peak_memory(server.process.pid)
+    memory = measured.peak_memory(server.process.pid)
     print(f"  a start: {server.processor:.1f} s of processor, {server.seconds:.1f} s passed, memory {memory:,.0f} MB, {size_of(path) / 1e6:,.0f} MB", flush=True)
 
 
 def report(server, meter, name):
     """Reports what the last requests used."""
     processor, passed = meter.since()
-    memory = common.peak_memory(server.process.pid)
+    memory = measured.peak_memory(server.process.pid)
     print(f"  {name}: {processor:.2f} s of processor, {passed:.2f} s passed, memory {memory:,.0f} MB", flush=True)
 
 
 def taken(connection, where, body):
-    status, text = common.ask(connection, "PUT", where, body)
+    status, text = served.ask(connection, "PUT", where, body)
     assert status == 201, (where, status, text)
 
 
@@ -122,11 +125,11 @@ def close_pools(server, files, works, number_of):
     taken(connection, "/v1/pools/2", order_body(10**12, cut, [["RADIO2", n + 1] for n in range(returns)]))
     report(server, meter, "a pool over all works and these returns")
     for pool in 1, 2:
-        status, text = common.ask(connection, "GET", f"/v1/pools/{pool}")
+        status, text = served.ask(connection, "GET", f"/v1/pools/{pool}")
         assert status == 200, status
         report(server, meter, f"reading the table of pool {pool}, {text.count(NEW_LINE) - 1:,} credits")
     for where in f"/v1/senders/{senders[0]}/works/{number_of(0).decode()}", "/v1/accounts/I00000000199":
-        status, _ = common.ask(connection, "GET", where)
+        status, _ = served.ask(connection, "GET", where)
         assert status == 200, (where, status)
     report(server, meter, "a work and a balance")
     connection.close()

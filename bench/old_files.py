@@ -1,4 +1,4 @@
-#!/usr/bin/env python3
+#!/usr/bin/python3
 """Opens files of older layouts, and measures how long taking one over takes.
 
 With a folder of samples: each NAME.layoutN*.db is audited, which writes nothing to it, and rebuilt: all that it has is sent to an empty
@@ -16,7 +16,10 @@ import sys
 import tempfile
 
 import common
-from common import OFFICE, ROOT, Server
+import measured
+import served
+from measured import Server
+from served import OFFICE, ROOT
 from society_office.book import page_sums
 
 # What makes layout 2 of layout 3, and layout 1 of layout 2.
@@ -74,7 +77,7 @@ def rebuilt(program, path):
 def refused(program, path):
     """What is told where a file is not opened, and whether it is as it was."""
     before = path.read_bytes()
-    options = ["--db", path, "--port", str(common.free_port()), "--connections", "1", *OFFICE]
+    options = ["--db", path, "--port", str(served.free_port()), "--connections", "1", *OFFICE]
     run = subprocess.run([program, "serve", *options], stdout=subprocess.PIPE, stderr=subprocess.STDOUT, timeout=60)
     return run.stdout.decode().strip(), path.read_bytes() == before
 
@@ -119,14 +122,14 @@ def try_samples(program, samples):
 
 
 def measure(program, count):
-    path = common.new_database()
-    common.filled(program, path, common.files(count, 1))
+    path = measured.new_database()
+    measured.filled(program, path, measured.files(count, 1))
     for layout, statements in (3, ""), (2, SECOND), (1, FIRST):
         changed_by(path, statements)
         copy = path.with_name(f"layout{layout}.db")
         shutil.copy(path, copy)
         size = copy.stat().st_size / 1_000_000
-        processor, passed, peak = common.opened(program, copy)
+        processor, passed, peak = measured.opened(program, copy)
         print(f"{count:,} transmissions, layout {layout}: {size:.0f} MB, {processor:.1f} s of processor, {passed:.1f} s, {peak:.0f} MB", flush=True)
 
 

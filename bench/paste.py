@@ -1,4 +1,4 @@
-#!/usr/bin/env python3
+#!/usr/bin/python3
 """Pastes every block of commands of the documents into a shell, in order, and compares what is printed with what the document says.
 
 A block of commands is a fenced block with the word `sh`; what it prints is a fenced block with the word `text`, where that is the
@@ -26,7 +26,7 @@ import tempfile
 import time
 
 import common
-from common import ROOT
+from served import ROOT
 
 DOCUMENTS = ["README.md", "docs/OPERATIONS.md", "docs/PUBLISHERS.md", "docs/STATIONS.md", "docs/OFFICE.md"]
 PRACTICE = "bench/practice.sh"

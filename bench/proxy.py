@@ -9,8 +9,9 @@ import subprocess
 import sys
 import time
 
-import common
-from common import ROOT
+import common  # noqa: F401
+import served
+from served import ROOT
 
 PAGE = ROOT / "examples/desk"
 SECRET = "secret"
@@ -25,8 +26,8 @@ class Proxy:
     """
 
     def __init__(self, folder, office_port, users, senders, account=None, trial_office_port=None, changes=()):
-        self.port, self.trial_port, self.home = common.free_port(), common.free_port(), folder / "proxy"
-        self.pages, self.trial_office_port = self.home / "pages", trial_office_port or common.free_port()
+        self.port, self.trial_port, self.home = served.free_port(), served.free_port(), folder / "proxy"
+        self.pages, self.trial_office_port = self.home / "pages", trial_office_port or served.free_port()
         self.system_log, self.known = self.home / "system_log", self.home / "known"
         self.home.mkdir()
         self.configure(office_port, changes)
@@ -50,7 +51,7 @@ class Proxy:
     def configure(self, office_port, changes):
         """The example with other ports; without a trial office its port leads to one that nobody listens on."""
         text = (ROOT / "examples/nginx.conf").read_text()
-        ports = {"8443": self.port, "8444": self.trial_port, "8445": common.free_port(), "8080": office_port, "8081": self.trial_office_port}
+        ports = {"8443": self.port, "8444": self.trial_port, "8445": served.free_port(), "8080": office_port, "8081": self.trial_office_port}
         places = {"/var/lib/society-site": self.pages, "/run/society-standby": self.known, "/dev/log": self.system_log}
         for old, new in [*changes, *((old, str(new)) for old, new in (places | ports).items())]:
             assert old in text, f"examples/nginx.conf has no {old}"

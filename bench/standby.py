@@ -1,4 +1,4 @@
-#!/usr/bin/env python3
+#!/usr/bin/python3
 """Tries a standby: an office behind examples/nginx.conf, whose puts are mirrored to a second office, in random rounds and case by case.
 
 In a round all that a random office is sent (office/tests/random_office.py: files, ends, returns, orders) is put by its users through the
@@ -27,8 +27,12 @@ import threading
 import time
 
 import common
+import bodies
+import served
 import standby_year
-from common import CSV_HEADER, FIRST, ROOT, Server, changed, order_body
+from bodies import CSV_HEADER, FIRST, changed, order_body
+from measured import Server
+from served import ROOT
 from edge_asking import OFFICE, asked
 from proxy import SECRET, Proxy
 
@@ -57,7 +61,7 @@ def check(what, found, wanted=True):
 
 def port():
     """A free port in which no port of the example stands, since those are replaced in it."""
-    while any(it in str(found := common.free_port()) for it in ("8443", "8444", "8445", "8080", "8081")):
+    while any(it in str(found := served.free_port()) for it in ("8443", "8444", "8445", "8080", "8081")):
         pass
     return found
 
@@ -308,7 +312,7 @@ def same_within(machines, seconds, paths):
     end = time.monotonic() + seconds
     while time.monotonic() < end:
         with contextlib.closing(machines.standby.server.connection()) as it:
-            if all(common.ask(it, "GET", path)[0] == 200 for path in paths):
+            if all(served.ask(it, "GET", path)[0] == 200 for path in paths):
                 return True
         time.sleep(0.1)
     return False
@@ -319,7 +323,7 @@ def hangs(machines):
     with served(machines):
         user, path = User(machines.proxies[0], SENDERS[0]), f"/senders/{SENDERS[0]}/transmissions"
         machines.standby.server.process.send_signal(signal.SIGSTOP)
-        found = [user.put(f"{path}/{k}", common.NO_WORKS) for k in range(1, TIMES + 1)]
+        found = [user.put(f"{path}/{k}", bodies.NO_WORKS) for k in range(1, TIMES + 1)]
         return {status for status, _ in found} == {201} and max(seconds for _, seconds in found) < 1
 
 
@@ -327,7 +331,7 @@ def brings(machines):
     """Puts of all kinds are brought, a file of the greatest length too."""
     with served(machines):
         user, office = User(machines.proxies[0], SENDERS[0]), User(machines.proxies[0], OFFICE)
-        long = common.works_file(0, 400, SENDERS[0])
+        long = bodies.works_file(0, 400, SENDERS[0])
         statuses = [user.put(f"/senders/{SENDERS[0]}/transmissions/1", long)[0], office.put("/pools/3", order_body(5, [], []))[0]]
         return statuses == [201, 201] and same_within(machines, 5, [f"/v1/senders/{SENDERS[0]}/acks/1", "/v1/pools/3"])
 
@@ -363,10 +367,10 @@ def only_its_own(machines):
         with trial, Server(machines.program, pathlib.Path(folder) / "office.db", machines.office_port):
             asking = [
                 (SENDERS[0], "GET", f"{path}/1", b"", {}),
-                (SENDERS[1], "PUT", f"{path}/2", common.NO_WORKS, {}),
-                (SENDERS[0], "PUT", f"{path}/3", common.NO_WORKS, {"password": "guess"}),
-                (SENDERS[0], "PUT", f"{path}/4", common.NO_WORKS, {"port": proxy.trial_port}),
-                (SENDERS[0], "PUT", f"{path}/1", common.NO_WORKS, {}),
+                (SENDERS[1], "PUT", f"{path}/2", bodies.NO_WORKS, {}),
+                (SENDERS[0], "PUT", f"{path}/3", bodies.NO_WORKS, {"password": "guess"}),
+                (SENDERS[0], "PUT", f"{path}/4", bodies.NO_WORKS, {"port": proxy.trial_port}),
+                (SENDERS[0], "PUT", f"{path}/1", bodies.NO_WORKS, {}),
             ]
             statuses = [asked(proxy, user, method, target, body, **how)[0] for user, method, target, body, how in asking]
             time.sleep(1)
@@ -398,7 +402,7 @@ def is_told(machines, kind, path, one, other):
         statuses.append(user.put(path, other)[0])
         time.sleep(0.5)
         with contextlib.closing(machines.standby.server.connection()) as direct:
-            statuses.append(common.ask(direct, "PUT", f"/v1{path}", other)[0])
+            statuses.append(served.ask(direct, "PUT", f"/v1{path}", other)[0])
         copy = copied(machines, folder / "office.db", f"{folder.name}/copies")
         way_of = ["--since-fronts"] if kind == "returns" else []
         status, told = office_tool(machines, "resend", copy, "--to", machines.addresses[0], *way_of)
@@ -417,7 +421,7 @@ def nothing_to_others(machines):
     resend = ["--to", address, "--known", proxy.known, "--state", machines.folder / "state.json", "--wait", "1"]
     with served(machines) as folder, tempfile.TemporaryDirectory() as other:
         user = User(proxy, SENDERS[0])
-        statuses = [user.put(f"{path}/1", common.NO_WORKS)[0]]
+        statuses = [user.put(f"{path}/1", bodies.NO_WORKS)[0]]
         copy = copied(machines, folder / "office.db", f"{folder.name}/copies")
         found = [(office_tool(machines, "resend", copy, *resend)[0], place.exists())]
         machines.standby.end()
@@ -427,10 +431,10 @@ def nothing_to_others(machines):
             strange.stdout.readline()
             said = office_tool(machines, "resend", copy, *resend)[1]
             found += [("is no office of society" in " ".join(said), place.exists())]
-            statuses += [user.put(f"{path}/{it}", common.NO_WORKS)[0] for it in (2, 3)]
+            statuses += [user.put(f"{path}/{it}", bodies.NO_WORKS)[0] for it in (2, 3)]
             time.sleep(1)
             with contextlib.closing(http.client.HTTPConnection("127.0.0.1", machines.standby.port, timeout=10)) as it:
-                front = common.ask(it, "GET", f"/v1{path.rpartition('/')[0]}")[1]
+                front = served.ask(it, "GET", f"/v1{path.rpartition('/')[0]}")[1]
             strange.kill()
         machines.standby.begin(folder / "standby.db")
         found += [(office_tool(machines, "resend", copy, *resend)[0], place.exists())]

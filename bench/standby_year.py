@@ -1,6 +1,7 @@
 """A year at two offices, by the documents: what is void is never proposed, rehearsed without a word or paid, also after a restore of an older
 copy and after the standby has come into service; each pool that was closed has its line in the journal, with who and why."""
 import contextlib
+import http.client
 import json
 import os
 import pathlib
@@ -9,7 +10,9 @@ import sys
 import tempfile
 
 import common
-from common import ROOT, order_body, plays, works_file
+import served
+from bodies import order_body, plays, works_file
+from served import ROOT
 
 sys.path[:0] = [str(ROOT / "office")]
 from society_office.decided import decisions, journal  # noqa: E402 (the folder of the checkout comes first)
@@ -45,8 +48,8 @@ class Root:
         return found
 
     def asked(self, path):
-        with contextlib.closing(common.http.client.HTTPConnection(self.address.removeprefix("http://"), timeout=60)) as it:
-            return common.ask(it, "GET", path)
+        with contextlib.closing(http.client.HTTPConnection(self.address.removeprefix("http://"), timeout=60)) as it:
+            return served.ask(it, "GET", path)
 
     def close(self, copy, order, amount=AMOUNT):
         words = ["--copy", copy, "--office", self.address, "--amount", amount, "--why", f"asked by the board of {self.name}"]

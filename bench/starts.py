@@ -1,4 +1,4 @@
-#!/usr/bin/env python3
+#!/usr/bin/python3
 """Measures how long `society audit` takes over offices whose pools, cuts or works are many: each at two sizes, with the exponent.
 
 Each office is a file that is filled once through `society serve`; with --keep the files stay in that folder, and a later run takes those
@@ -14,7 +14,9 @@ import tempfile
 
 import common
 import old_files
-from common import OFFICE, SENDER, filled, order_body, plays, plays_of, works_file
+from bodies import SENDER, order_body, plays, plays_of, works_file
+from measured import filled
+from served import OFFICE
 from growth import exponent, in_turn, sender
 
 MANY = 100  # senders of an office of files of one work

@@ -1,4 +1,4 @@
-#!/usr/bin/env python3
+#!/usr/bin/python3
 """Measures puts, questions and pools of ordinary shapes, many of each, through `society replay`.
 
 Reported are, of the run with the least processor time (user and system), its processor seconds, microseconds of them a request, the
@@ -6,7 +6,8 @@ peak memory of the program in MB, the bytes in and out, and how many answers of 
 examples/first.cwr, each under a number and a recording of its own.
 """
 import common
-from common import FIRST, MAX_BODY, SENDER, get, plays, put_file, put_pool, put_return, request, work_lines, works_file
+import measured
+from bodies import FIRST, MAX_BODY, SENDER, get, plays, put_file, put_pool, put_return, request, work_lines, works_file
 
 PATH = f"/v1/senders/{SENDER}"
 
@@ -83,9 +84,9 @@ def main():
     print("| Case | Seconds | Microseconds a request | Peak MB | Bytes in | Bytes out | Answers |\n|---|---|---|---|---|---|---|")
     for name in (it for it in CASES if options.case in it):
         stream, count = CASES[name]()
-        run = common.least_of(options.program, stream, options.runs)
+        run = measured.least_of(options.program, stream, options.runs)
         times = f"{run.processor:.2f} | {run.processor * 1_000_000 / count:.1f} | {run.peak:.1f}"
-        print(f"| {name} | {times} | {len(stream):,} | {run.written:,} | {common.listed(run.statuses)} |", flush=True)
+        print(f"| {name} | {times} | {len(stream):,} | {run.written:,} | {measured.listed(run.statuses)} |", flush=True)
 
 
 if __name__ == "__main__":

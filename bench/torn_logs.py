@@ -1,4 +1,4 @@
-#!/usr/bin/env python3
+#!/usr/bin/python3
 """Makes what a machine that stops leaves of an office's file and log, and holds that none of it is told as a damaged log.
 
 The program's writes are traced (strace), to a young office and to one whose log was begun anew several times. At random moments
@@ -14,7 +14,10 @@ import sys
 import tempfile
 
 import common
-from common import OFFICE, works_file
+import bodies
+import served
+from bodies import works_file
+from served import OFFICE
 
 SECTOR = 512
 CALL = re.compile(r"^(?:\d+ +)?(openat|pwrite64|ftruncate|fsync|fdatasync|close)\((.*)\) += (-?\d+)")
@@ -37,11 +40,11 @@ def put_all(program, folder, count, connections):
     trace = folder / "trace"
     traced = ["strace", "-f", "-xx", "-s", "4000000", "-e", "trace=openat,pwrite64,ftruncate,fsync,fdatasync,close", "-o", str(trace), program]
     for first in range(connections):
-        port = common.free_port()
+        port = served.free_port()
         words = ["serve", "--db", "office.db", "--port", str(port), "--connections", "1", *OFFICE]
         with subprocess.Popen([*traced, *words], cwd=folder, stdout=subprocess.PIPE) as process:
             process.stdout.readline()
-            stream = b"".join(common.put_file(works_file(number, 1 + number % 5), number) for number in range(first * count + 1, (first + 1) * count + 1))
+            stream = b"".join(bodies.put_file(works_file(number, 1 + number % 5), number) for number in range(first * count + 1, (first + 1) * count + 1))
             send(port, stream)
             process.wait()
         yield from calls_of(trace)

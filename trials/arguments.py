@@ -1,5 +1,7 @@
 """Arguments of the program, and what it writes of them. They stand parted by `|`."""
-from program import Ended, run, run_row, told, trial
+import pathlib
+from program import run, run_row, told, trial
+from served import Ended
 
 # Arguments that are taken, or whose name is none: the status, and the whole of standard error.
 TAKEN = [
@@ -26,22 +28,67 @@ WRONG = [
     ("replay|--society||--territory|40|--name|X", "error: invalid value '' for '--society <N>': cannot parse integer from empty string\n"),
     ("replay|--society|900|--territory|40|--name|X|Y", "error: unexpected argument 'Y' found\n"),
     ("replay|--port|1|--society|900|--territory|40|--name|X", "error: unexpected argument '--port' found\n"),
-    ("serve|--society|900|--territory|40|--name|X", "error: the following required arguments were not provided:\n  --db <PATH>\n  --port <N>\n  --connections <N>\n"),
-    ("serve|--db|F|--port|0|--connections|1|--society|900|--territory|40|--name|X", "error: invalid value '0' for '--port <N>': 0 is not in 1..=65535\n"),
-    ("serve|--db|F|--port|65536|--connections|1|--society|900|--territory|40|--name|X", "error: invalid value '65536' for '--port <N>': 65536 is not in 1..=65535\n"),
-    ("serve|--db|F|--port|1|--connections|0|--society|900|--territory|40|--name|X", "error: invalid value '0' for '--connections <N>': 0 is not in 1..=1000000\n"),
-    ("serve|--db|F|--port|1|--connections|1|--patience|0|--society|900|--territory|40|--name|X", "error: invalid value '0' for '--patience <SECONDS>': 0 is not in 1..=86400\n"),
-    ("serve|--db|F|--port|1|--connections|1|--patience|86401|--society|900|--territory|40|--name|X", "error: invalid value '86401' for '--patience <SECONDS>': 86401 is not in 1..=86400\n"),
-    ("serve|--db|F|--port|1|--connections|1000001|--society|900|--territory|40|--name|X", "error: invalid value '1000001' for '--connections <N>': 1000001 is not in 1..=1000000\n"),
-    ("replay|--territory|40|--society|900|--territory|40|--name|X", "error: the argument '--territory <N>' cannot be used multiple times\n"),
+    (
+        "serve|--society|900|--territory|40|--name|X",
+        "error: the following required arguments were not provided:\n  --db <PATH>\n  --port <N>\n  --connections <N>\n",
+    ),
+    (
+        "serve|--db|F|--port|0|--connections|1|--society|900|--territory|40|--name|X",
+        "error: invalid value '0' for '--port <N>': 0 is not in 1..=65535\n",
+    ),
+    (
+        "serve|--db|F|--port|65536|--connections|1|--society|900|--territory|40|--name|X",
+        "error: invalid value '65536' for '--port <N>': 65536 is not in 1..=65535\n",
+    ),
+    (
+        "serve|--db|F|--port|1|--connections|0|--society|900|--territory|40|--name|X",
+        "error: invalid value '0' for '--connections <N>': 0 is not in 1..=1000000\n",
+    ),
+    (
+        "serve|--db|F|--port|1|--connections|1|--patience|0|--society|900|--territory|40|--name|X",
+        "error: invalid value '0' for '--patience <SECONDS>': 0 is not in 1..=86400\n",
+    ),
+    (
+        "serve|--db|F|--port|1|--connections|1|--patience|86401|--society|900|--territory|40|--name|X",
+        "error: invalid value '86401' for '--patience <SECONDS>': 86401 is not in 1..=86400\n",
+    ),
+    (
+        "serve|--db|F|--port|1|--connections|1000001|--society|900|--territory|40|--name|X",
+        "error: invalid value '1000001' for '--connections <N>': 1000001 is not in 1..=1000000\n",
+    ),
+    (
+        "replay|--territory|40|--society|900|--territory|40|--name|X",
+        "error: the argument '--territory <N>' cannot be used multiple times\n",
+    ),
     ("replay|--name|X|--society|900|--territory|40|--name|X", "error: the argument '--name <TEXT>' cannot be used multiple times\n"),
-    ("serve|--db|F|--port|1|--port|1|--connections|1|--society|900|--territory|40|--name|X", "error: the argument '--port <N>' cannot be used multiple times\n"),
-    ("serve|--db|F|--port|1|--connections|1|--connections|1|--society|900|--territory|40|--name|X", "error: the argument '--connections <N>' cannot be used multiple times\n"),
-    ("serve|--db|F|--connections|1|--society|900|--territory|40|--name|X", "error: the following required arguments were not provided:\n  --port <N>\n"),
-    ("serve|--db|F|--port|1|--society|900|--territory|40|--name|X", "error: the following required arguments were not provided:\n  --connections <N>\n"),
-    ("serve|--db|F|--port||--connections|1|--society|900|--territory|40|--name|X", "error: invalid value '' for '--port <N>': cannot parse integer from empty string\n"),
-    ("serve|--db|F|--port|1|--connections|1|--society|900|--territory|40|--name", "error: a value is required for '--name <TEXT>' but none was supplied\n"),
-    ("serve|--existing|--existing|--db|F|--port|1|--connections|1|--society|900|--territory|40|--name|X", "error: the argument '--existing' cannot be used multiple times\n"),
+    (
+        "serve|--db|F|--port|1|--port|1|--connections|1|--society|900|--territory|40|--name|X",
+        "error: the argument '--port <N>' cannot be used multiple times\n",
+    ),
+    (
+        "serve|--db|F|--port|1|--connections|1|--connections|1|--society|900|--territory|40|--name|X",
+        "error: the argument '--connections <N>' cannot be used multiple times\n",
+    ),
+    (
+        "serve|--db|F|--connections|1|--society|900|--territory|40|--name|X",
+        "error: the following required arguments were not provided:\n  --port <N>\n",
+    ),
+    (
+        "serve|--db|F|--port|1|--society|900|--territory|40|--name|X",
+        "error: the following required arguments were not provided:\n  --connections <N>\n",
+    ),
+    (
+        "serve|--db|F|--port||--connections|1|--society|900|--territory|40|--name|X",
+        "error: invalid value '' for '--port <N>': cannot parse integer from empty string\n",
+    ),
+    (
+        "serve|--db|F|--port|1|--connections|1|--society|900|--territory|40|--name",
+        "error: a value is required for '--name <TEXT>' but none was supplied\n",
+    ),
+    (
+        "serve|--existing|--existing|--db|F|--port|1|--connections|1|--society|900|--territory|40|--name|X",
+        "error: the argument '--existing' cannot be used multiple times\n",
+    ),
     ("replay|--existing|--society|900|--territory|40|--name|X", "error: unexpected argument '--existing' found\n"),
     ("audit|--society|900|--territory|40|--name|X", "error: the following required arguments were not provided:\n  --db <PATH>\n"),
     ("audit|--db|F|--port|1|--society|900|--territory|40|--name|X", "error: unexpected argument '--port' found\n"),
@@ -99,7 +146,9 @@ Options:
 """
 
 # What `credit --help` tells.
-CREDIT_HELP = AUDIT_HELP.replace("Tell whether a file holds the office's book, and write nothing to it", "Tell what the orders on standard input would credit, and why")
+CREDIT_HELP = AUDIT_HELP.replace(
+    "Tell whether a file holds the office's book, and write nothing to it", "Tell what the orders on standard input would credit, and why"
+)
 CREDIT_HELP = CREDIT_HELP.replace("society audit", "society credit")
 
 # Arguments that ask for help, and what it tells.
@@ -107,7 +156,7 @@ HELPS = [("--help", HELP), ("-h", HELP), ("serve|--help", SERVE_HELP), ("audit|-
 
 
 @trial
-def words_that_are_taken(program, folder):
+def words_that_are_taken(program: pathlib.Path, folder: pathlib.Path) -> None:
     for row, status, line in TAKEN:
         ended = run_row(program, folder, row)
         told(row, (ended.err, ended.status), (line.encode(), status))
@@ -115,18 +164,18 @@ def words_that_are_taken(program, folder):
 
 
 @trial
-def words_that_are_wrong(program, folder):
+def words_that_are_wrong(program: pathlib.Path, folder: pathlib.Path) -> None:
     for row, line in WRONG:
         ended = run_row(program, folder, row)
         told(row, Ended(ended.out, ended.err[: len(line)], ended.status), Ended(b"", line.encode(), 2))
 
 
 @trial
-def words_that_are_no_text(program, folder):
+def words_that_are_no_text(program: pathlib.Path, folder: pathlib.Path) -> None:
     told("no text", run(program, folder, [b"replay", b"\xff"]), Ended(b"", b"society: bad words\n", 2))
 
 
 @trial
-def help_is_told(program, folder):
+def help_is_told(program: pathlib.Path, folder: pathlib.Path) -> None:
     for row, text in HELPS:
         told(row, run_row(program, folder, row), Ended(text.encode(), b"", 0))

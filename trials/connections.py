@@ -1,8 +1,10 @@
 """Connections over TCP that share one book: what each peer gets, and the lines that are printed."""
+import pathlib
 import socket
 
-from common import FIRST, NO_WORKS, put_file
-from program import BAD, LIMIT, Ended, Server, acknowledgement, answer, applied, told, trial
+from bodies import FIRST, NO_WORKS, put_file
+from served import Ended, connected, read_all
+from program import BAD, Server, acknowledgement, answer, applied, told, trial
 
 UNKNOWN = b'HTTP/1.1 404 Not Found\r\nContent-Type: application/json\r\nContent-Length: 19\r\nConnection: close\r\n\r\n{"error":"unknown"}'
 ACK_FRONT = b"HDRSO000000900EXAMPLE SOCIETY".ljust(59) + b"01.102026010600000020260106".ljust(42) + b"\r\n"
@@ -16,7 +18,7 @@ FIRST_ACK = (
 )
 
 
-def both(number, body, ack):
+def both(number: int, body: bytes, ack: bytes) -> tuple[bytes, bytes]:
     """A put and the request of its acknowledgement, and the answers to them."""
     return put_file(body, number) + acknowledgement(number), applied(number) + answer(b"200 OK", ack, "application/octet-stream")
 
@@ -34,29 +36,29 @@ PEERS = [
 ]
 
 
-def peer_of(server, stream, sends_on=False):
+def peer_of(server: Server, stream: bytes, sends_on: bool = False) -> socket.socket:
     """A connection that has sent these bytes, and sends no more but where it is told to."""
-    peer = socket.create_connection(("127.0.0.1", server.port), LIMIT)
+    peer = connected(server.port)
     peer.sendall(stream)
     if not sends_on:
         peer.shutdown(socket.SHUT_WR)
     return peer
 
 
-def got_by(peer):
+def got_by(peer: socket.socket) -> bytes:
     """All that a peer gets until its connection ends."""
     with peer:
-        return b"".join(iter(lambda: peer.recv(1 << 16), b""))
+        return read_all(peer)
 
 
-def printed(counts):
+def printed(counts: list[int]) -> Ended:
     """What is printed where so many requests of each connection are served."""
     lines = (b"connection %d: %d requests\n" % it for it in enumerate(counts, 1))
     return Ended(b"listening\n" + b"".join(lines), b"", 0)
 
 
 @trial
-def peers_that_come_one_after_another(program, folder):
+def peers_that_come_one_after_another(program: pathlib.Path, folder: pathlib.Path) -> None:
     for name, peers, counts in PEERS:
         with Server(program, folder, f"{name}.db", connections=len(peers)) as server:
             there = [peer_of(server, sent) for sent, _ in peers]
@@ -65,7 +67,7 @@ def peers_that_come_one_after_another(program, folder):
 
 
 @trial
-def a_peer_that_is_gone(program, folder):
+def a_peer_that_is_gone(program: pathlib.Path, folder: pathlib.Path) -> None:
     """A peer that is gone before it is answered."""
     with Server(program, folder, "office.db", connections=2) as server:
         peer_of(server, b"GET /v1", sends_on=True).close()
@@ -76,7 +78,7 @@ def a_peer_that_is_gone(program, folder):
 
 
 @trial
-def a_peer_that_waits(program, folder):
+def a_peer_that_waits(program: pathlib.Path, folder: pathlib.Path) -> None:
     """A peer that waits for its answer with its sending half open gets it, and the end: nothing is read behind a request that is whole."""
     asked = acknowledgement(1)[:-2] + b"Connection: close\r\n\r\n"
     with Server(program, folder, "office.db") as server:

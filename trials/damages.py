@@ -1,8 +1,10 @@
-"""One row for each equality that an audit compares, changed, missing or more than it should be: each is damage in every layout that has it."""
-from common import FIRST, NO_WORKS, REVISION, SENDER, order_body, put_file, put_pool, put_return, request
+"""One row for each equality that an audit compares, changed, missing or more than it should be: each is damage in every layout that has
+it."""
+import pathlib
+from bodies import FIRST, NO_WORKS, REVISION, SENDER, order_body, put_file, put_pool, put_return, request
 from leaving import IN_EVERY_TABLE, change, left_by, put_year
-from openings import DAMAGED, LAYOUT_1, LAYOUT_2, SOUND, audited, check_opened, each_changed
-from program import told, trial
+from openings import DAMAGED, LAYOUT_1, LAYOUT_2, SOUND, check_opened, each_changed
+from program import audited, told, trial
 
 # Rows in every table, and a file of a year that no end leads to.
 A_YEAR_SKIPPED = IN_EVERY_TABLE + put_year(25, NO_WORKS)
@@ -10,16 +12,19 @@ A_YEAR_SKIPPED = IN_EVERY_TABLE + put_year(25, NO_WORKS)
 PLAIN_NUMBERS = b"".join(
     [put_file(FIRST, 1), put_file(REVISION, 2), put_file(NO_WORKS, 4)]
     + [put_return(b"isrc,plays,seconds\nATABC2600001,10,200\n"), put_pool(7, 1_001, [[SENDER, 1]], [["RADIO1", 1]])]
-    + [put_return(b"isrc,plays,seconds\nATABC2600001,7,70\n", 2), request("PUT", "/v1/pools/8", order_body(999, [[SENDER, 2]], [["RADIO1", 2]]))]
+    + [
+        put_return(b"isrc,plays,seconds\nATABC2600001,7,70\n", 2),
+        request("PUT", "/v1/pools/8", order_body(999, [[SENDER, 2]], [["RADIO1", 2]])),
+    ]
 )
 
 
-def again(number):
+def again(number: int) -> str:
     """A transmission more, under this number, with the bytes of the first one."""
     return f"INSERT INTO transmissions SELECT sender, {number}, body FROM transmissions WHERE number = 1"
 
 
-def return_again(reporter, number):
+def return_again(reporter: str, number: int) -> str:
     """A return more, with the bytes of the first one."""
     return f"INSERT INTO returns SELECT '{reporter}', {number}, body FROM returns WHERE number = 1"
 
@@ -178,7 +183,7 @@ EQUALITIES = [
 
 
 @trial
-def each_equality_of_an_audit_is_compared(program, folder):
+def each_equality_of_an_audit_is_compared(program: pathlib.Path, folder: pathlib.Path) -> None:
     """Each changed row is damage, whatever the layout, and the file keeps its bytes; without a change it is sound."""
     for name, layout, requests, changes in EQUALITIES:
         left = left_by(program, folder, f"{name}.db", requests)

@@ -1,11 +1,13 @@
 """An office in a file: where there is none, where it is opened again, and where it is audited."""
 import os
+import pathlib
 import socket
 import stat
 
-from common import FIRST, OFFICE, SENDER, get, put_file
-from program import ANOTHER_OFFICE, DAY, DAY_ANSWERS, EMPTY_DATABASE, ROW_NAMES, ROWS, SERVED_ONE, Ended, Server
-from program import answer, answered, applied, held_by, office_of, run, run_row, served_one, told, trial
+from bodies import FIRST, SENDER, get, put_file
+from served import Ended, serve_words
+from program import ANOTHER_OFFICE, DAY, DAY_ANSWERS, EMPTY_DATABASE, ROW_NAMES, ROWS, SERVED_ONE, Server
+from program import answer, answered, applied, audited, held_by, run, run_row, served_one, told, trial
 
 WANTS_A_FILE = [
     "serve|--existing|--db|office.db|--port|1|--connections|1|--society|900|--territory|40|--name|X",
@@ -14,14 +16,14 @@ WANTS_A_FILE = [
 
 
 @trial
-def a_file_that_is_not_there(program, folder):
+def a_file_that_is_not_there(program: pathlib.Path, folder: pathlib.Path) -> None:
     for row in WANTS_A_FILE:
         told(row, run_row(program, folder, row), EMPTY_DATABASE)
         told(row, held_by(folder), {})
 
 
 @trial
-def a_file_that_is_empty(program, folder):
+def a_file_that_is_empty(program: pathlib.Path, folder: pathlib.Path) -> None:
     (folder / "office.db").write_bytes(b"")
     for row in WANTS_A_FILE:
         told(row, run_row(program, folder, row), EMPTY_DATABASE)
@@ -29,7 +31,7 @@ def a_file_that_is_empty(program, folder):
 
 
 @trial
-def a_path_that_cannot_be_looked_at(program, folder):
+def a_path_that_cannot_be_looked_at(program: pathlib.Path, folder: pathlib.Path) -> None:
     """It is not told as one where nothing is."""
     (folder / "office.db").write_bytes(b"")
     for row in WANTS_A_FILE:
@@ -37,7 +39,7 @@ def a_path_that_cannot_be_looked_at(program, folder):
 
 
 @trial
-def what_is_no_file(program, folder):
+def what_is_no_file(program: pathlib.Path, folder: pathlib.Path) -> None:
     """A device, a fifo and a folder are refused, whether an office has to be there or not, and left as they are."""
     os.mkfifo(folder / "fifo")
     (folder / "folder").mkdir()
@@ -49,7 +51,7 @@ def what_is_no_file(program, folder):
 
 
 @trial
-def a_log_without_its_file(program, folder):
+def a_log_without_its_file(program: pathlib.Path, folder: pathlib.Path) -> None:
     """A log with pages is what is left of an office: it is told as damage beside no file, and beside one of no byte, and stays."""
     answered(program, folder, "office.db", put_file(FIRST, 1))
     log = (folder / "office.db-wal").read_bytes()
@@ -64,7 +66,7 @@ def a_log_without_its_file(program, folder):
 
 
 @trial
-def who_may_read_a_new_file(program, folder):
+def who_may_read_a_new_file(program: pathlib.Path, folder: pathlib.Path) -> None:
     """Its owner alone, and its log too, under whatever mask; one that others may write is told of, and served."""
     for mask in (0o000, 0o022, 0o077):
         path = folder / f"{mask:o}.db"
@@ -81,24 +83,23 @@ def who_may_read_a_new_file(program, folder):
 
 
 @trial
-def a_file_that_has_all_in_its_log(program, folder):
+def a_file_that_has_all_in_its_log(program: pathlib.Path, folder: pathlib.Path) -> None:
     """An office that was killed before its first copy has its book in the log: with it the file is an office's, and without it empty."""
     came = answered(program, folder, "office.db", put_file(FIRST, 1))
     # (the file itself has its first page alone, and no table)
     told("what came", (came, (folder / "office.db").stat().st_size), (applied(1), 4_096))
-    words = ["audit", "--db", "office.db", *OFFICE]
-    told("with its log", run(program, folder, words), Ended(b"sound\n", b"", 0))
+    told("with its log", audited(program, folder / "office.db"), Ended(b"sound\n", b"", 0))
     asked = get(f"/v1/senders/{SENDER}")
     told("begun again", answered(program, folder, "office.db", asked), answer(b"200 OK", b'{"front":1,"held":[]}'))
     (folder / "office.db-wal").unlink()
-    told("without it", run(program, folder, words), EMPTY_DATABASE)
+    told("without it", audited(program, folder / "office.db"), EMPTY_DATABASE)
 
 
 @trial
-def a_port_that_is_taken(program, folder):
+def a_port_that_is_taken(program: pathlib.Path, folder: pathlib.Path) -> None:
     with socket.create_server(("127.0.0.1", 0)) as taken:
         port = str(taken.getsockname()[1])
-        words = ["serve", "--db", "F", "--port", port, "--connections", "1", *OFFICE]
+        words = serve_words("F", int(port))
         told("a port that is taken", run(program, folder, words), Ended(b"", f"society: cannot listen at port {port}\n".encode(), 1))
 
 
@@ -107,7 +108,7 @@ DAY_CUT = DAY.index(b"PUT /v1/returns/RADIO1/1 ")
 
 
 @trial
-def a_day_over_a_file(program, folder):
+def a_day_over_a_file(program: pathlib.Path, folder: pathlib.Path) -> None:
     """All answers are those of one run in memory, though the program is killed between."""
     out = answered(program, folder, "day.db", DAY[:DAY_CUT]) + answered(program, folder, "day.db", DAY[DAY_CUT:])
     told("the day's answers", out, DAY_ANSWERS)
@@ -125,24 +126,24 @@ SERVED = [
 
 
 @trial
-def connections_over_a_file(program, folder):
+def connections_over_a_file(program: pathlib.Path, folder: pathlib.Path) -> None:
     for path, existing, society, wanted in SERVED:
         told((path, existing, society), served_one(program, folder, path, existing, society), wanted)
 
 
 @trial
-def a_file_that_is_audited(program, folder):
+def a_file_that_is_audited(program: pathlib.Path, folder: pathlib.Path) -> None:
     """A file that is audited keeps its bytes, and its log too."""
     told("the day's answers", answered(program, folder, "audited.db", DAY), DAY_ANSWERS)
     held = held_by(folder)
     told("its files", sorted(held), ["audited.db", "audited.db-wal"])
     for society, wanted in ((900, Ended(b"sound\n", b"", 0)), (901, ANOTHER_OFFICE)):
-        told(society, run(program, folder, ["audit", "--db", "audited.db", *office_of(society)]), wanted)
+        told(society, audited(program, folder / "audited.db", society), wanted)
         told("what its files hold", held_by(folder) == held, True)
 
 
 @trial
-def the_file_alone_is_the_book(program, folder):
+def the_file_alone_is_the_book(program: pathlib.Path, folder: pathlib.Path) -> None:
     """After a normal end the database file alone is the book: it opens without its log, with what had come before."""
     out = answered(program, folder, "alone.db", DAY[:DAY_CUT])
     told("a normal end", served_one(program, folder, "alone.db", True, 900), SERVED_ONE)
@@ -155,7 +156,7 @@ OVER_A_FILE = ("a_day", "arrivals/", "long_days/", "pools/", "rows_of_kinds/", "
 
 
 @trial
-def rows_over_a_file(program, folder):
+def rows_over_a_file(program: pathlib.Path, folder: pathlib.Path) -> None:
     """Over a file a stream is answered as it is over tables in memory."""
     for number, row in enumerate(it for it in ROW_NAMES if it.startswith(OVER_A_FILE)):
         with Server(program, folder, f"{number}.db") as server:

@@ -1,8 +1,9 @@
 """Changed bits of a file that the program made: its pages have sums, so each is damage, also where no row and no page is broken by it."""
-from common import CSV_HEADER, put_return
+import pathlib
+from bodies import CSV_HEADER, put_return
 from leaving import IN_EVERY_TABLE, change, left_by
-from openings import DAMAGED, SOUND, audited, check_opened
-from program import SERVED_ONE, answer, answered, served_one, told, trial
+from openings import DAMAGED, SOUND, check_opened
+from program import SERVED_ONE, answer, answered, audited, served_one, told, trial
 from society_office.book import page_sums
 
 # The bytes of a page, and where the first one tells how often the file was changed, and the first free page.
@@ -14,7 +15,7 @@ SAYS_SUMS, BIT = 20, 8
 FREES = "CREATE TABLE more (it BLOB NOT NULL) STRICT; INSERT INTO more (it) VALUES (zeroblob(20000)); DROP TABLE more"
 
 
-def changed_places(held):
+def changed_places(held: bytes) -> dict[str, int]:
     """Bytes of a file in which a changed bit breaks nothing that is read, by their names."""
     free = int.from_bytes(held[FREE : FREE + 4], "big")
     return {
@@ -29,17 +30,21 @@ def changed_places(held):
 
 
 @trial
-def pages_of_a_new_file_have_sums(program, folder):
+def pages_of_a_new_file_have_sums(program: pathlib.Path, folder: pathlib.Path) -> None:
     """They are right when the program has ended, also behind one that was killed."""
     left = left_by(program, folder, "left.db", IN_EVERY_TABLE)
     told("after an end", (page_sums.has_sums(left), page_sums.wrong_pages(left)), (True, []))
-    told("a put before it is killed", answered(program, folder, left.name, put_return(CSV_HEADER, 9)), answer(b"201 Created", b'{"state":"stored"}'))
+    told(
+        "a put before it is killed",
+        answered(program, folder, left.name, put_return(CSV_HEADER, 9)),
+        answer(b"201 Created", b'{"state":"stored"}'),
+    )
     told("opened again", served_one(program, folder, left.name, True, 900), SERVED_ONE)
     told("its sums then", page_sums.wrong_pages(left), [])
 
 
 @trial
-def a_changed_bit_is_damage(program, folder):
+def a_changed_bit_is_damage(program: pathlib.Path, folder: pathlib.Path) -> None:
     """Each of some bits, in an audit and in a start; the file keeps its bytes."""
     left = left_by(program, folder, "left.db", IN_EVERY_TABLE)
     change(left, FREES)
@@ -53,7 +58,7 @@ def a_changed_bit_is_damage(program, folder):
 
 
 @trial
-def pages_that_only_sqlite_wrote_are_damage(program, folder):
+def pages_that_only_sqlite_wrote_are_damage(program: pathlib.Path, folder: pathlib.Path) -> None:
     """sqlite3 knows of no sums: what it writes is refused until its pages are summed anew."""
     left = left_by(program, folder, "left.db", IN_EVERY_TABLE)
     with page_sums.changed(left) as database:

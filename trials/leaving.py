@@ -1,31 +1,31 @@
 """Databases that requests leave, read and changed by SQLite itself, and the rows that they have."""
 import contextlib
+import pathlib
 import sqlite3
+from typing import Any
 
-from common import FIRST, NO_WORKS, REVISION, SENDER, order_body, put_file, put_named, put_pool, put_return, request, state_end
+from bodies import FIRST, NO_WORKS, REVISION, SENDER, order_body, put_file, put_named, put_pool, put_return, request, state_end
 from program import SERVED_ONE, Server, served_one, told, trial
 from society_office.book import page_sums
 
 
 # Requests that leave a database.
-def put_year(year, body):
+def put_year(year: int, body: bytes) -> bytes:
     """The put of the first file of a year."""
     return put_named(body, f"CW{year}0001EXA_900.V22")
 
 
-def played(plays):
+def played(plays: int) -> bytes:
     return put_return(b"isrc,plays,seconds\nATABC2600001,%d,200\n" % plays)
 
 
-def close(amount, cut):
+def close(amount: int, cut: int) -> bytes:
     """The order that closes pool 7 over the sender's files up to this number and the first return."""
     return put_pool(7, amount, [[SENDER, cut]], [["RADIO1", 1]])
 
 
 # A registration, two files with no group, a return and a pool of 1,001 units, whose order comes first when it still has to wait.
-CLOSED_AT_A_CUT = b"".join(
-    [put_file(FIRST, 1), put_file(NO_WORKS, 2), played(10), close(1_001, 3), put_file(NO_WORKS, 3), close(1_001, 3)]
-)
+CLOSED_AT_A_CUT = b"".join([put_file(FIRST, 1), put_file(NO_WORKS, 2), played(10), close(1_001, 3), put_file(NO_WORKS, 3), close(1_001, 3)])
 # The revision under the first number of 2026, a registration, and the end of the plain numbers that leads from the one to the other.
 YEAR_BEGUN = put_year(26, REVISION) + put_file(FIRST, 1) + state_end("plain", 1, 26)
 # A registration that waits, one that does not, a return and a pool that pays it.
@@ -46,7 +46,7 @@ TWO_YEARS = b"".join(
 )
 
 
-def left_by(program, folder, name, requests):
+def left_by(program: pathlib.Path, folder: pathlib.Path, name: str, requests: bytes) -> pathlib.Path:
     """The database that requests leave after a normal end, in its file alone."""
     with Server(program, folder, name) as server:
         server.sent(requests)
@@ -54,13 +54,13 @@ def left_by(program, folder, name, requests):
     return folder / name
 
 
-def change(path, statements):
+def change(path: pathlib.Path, statements: str) -> None:
     """Runs statements over a database, whose pages are summed anew where they have sums."""
     with page_sums.changed(path) as database:
         database.executescript(f"PRAGMA foreign_keys = ON; {statements}")
 
 
-def names_in(path):
+def names_in(path: pathlib.Path) -> list[tuple[str]]:
     """The names of all tables and indexes."""
     with contextlib.closing(sqlite3.connect(path)) as database:
         return sorted(database.execute("SELECT name FROM sqlite_master"))
@@ -85,7 +85,7 @@ TABLES = {
 }
 
 
-def rows_of(path):
+def rows_of(path: pathlib.Path) -> list[tuple[Any, ...]]:
     """The rows of all tables, each behind its table's name."""
     with contextlib.closing(sqlite3.connect(path)) as database:
         asked = {table: database.execute(f"SELECT {columns} FROM {table} ORDER BY {columns}") for table, columns in TABLES.items()}
@@ -95,7 +95,7 @@ def rows_of(path):
 OFFICE_ROW = ("office", 1, 3, 900, 40, "EXAMPLE SOCIETY")
 
 
-def rows(table, *values):
+def rows(table: str, *values: tuple[object, ...]) -> list[tuple[object, ...]]:
     """Rows of a table, of which the first columns are the sender's."""
     return [(table, SENDER, *it) for it in values]
 
@@ -161,13 +161,13 @@ LEFT = [
 
 
 @trial
-def rows_that_requests_leave(program, folder):
+def rows_that_requests_leave(program: pathlib.Path, folder: pathlib.Path) -> None:
     for name, requests, wanted in LEFT:
         told(name, rows_of(left_by(program, folder, name, requests)), wanted)
 
 
 @trial
-def a_file_holds_what_was_committed(program, folder):
+def a_file_holds_what_was_committed(program: pathlib.Path, folder: pathlib.Path) -> None:
     """Every table has rows, and has them still after the file was closed, opened and closed again."""
     left = left_by(program, folder, "left", IN_EVERY_TABLE)
     held = rows_of(left)

@@ -1,13 +1,17 @@
-"""Logs that no stop of the office leaves: each is told, nothing is opened, and both files keep their bytes; and those that stops leave are taken."""
+"""Logs that no stop of the office leaves: each is told, nothing is opened, and both files keep their bytes; and those that stops leave are
+taken."""
+import pathlib
 import random
 import shutil
 import sqlite3
 import subprocess
 import sys
+from collections.abc import Iterator
 
-from common import CSV_HEADER, FIRST, OFFICE, put_file, put_return
+from bodies import CSV_HEADER, FIRST, put_file, put_return
+from served import OFFICE, Ended
 from openings import SOUND
-from program import EMPTY_DATABASE, Ended, answered, held_by, run, served_one, told, trial
+from program import EMPTY_DATABASE, answered, audited, held_by, run, served_one, told, trial
 from society_office.book import book_log
 
 LOG = Ended(b"", b"society: database log\n", 1)
@@ -16,19 +20,22 @@ PAGE, FRAME = 4_096, 4_096 + book_log.FRAME_HEADER
 GATE = 8
 # The starts that open a database, beside an audit.
 STARTS = [["serve", "--port", "1", "--connections", "1"], ["serve", "--existing", "--port", "1", "--connections", "1"]]
-PUTS = [put_file(FIRST, 1), put_return(CSV_HEADER, 1), put_file(FIRST, 2), put_return(CSV_HEADER, 2), put_return(CSV_HEADER, 3), put_file(FIRST, 3)]
+PUTS = [
+    put_file(FIRST, 1),
+    put_return(CSV_HEADER, 1),
+    put_file(FIRST, 2),
+    put_return(CSV_HEADER, 2),
+    put_return(CSV_HEADER, 3),
+    put_file(FIRST, 3),
+]
 
 
-def audited(program, folder):
-    return run(program, folder, ["audit", "--db", "office.db", *OFFICE])
-
-
-def young(program, folder):
+def young(program: pathlib.Path, folder: pathlib.Path) -> None:
     """An office that has all in its log but its first page."""
     answered(program, folder, "office.db", b"".join(PUTS))
 
 
-def older(program, folder):
+def older(program: pathlib.Path, folder: pathlib.Path) -> None:
     """An office that has some in its file and some in its log."""
     answered(program, folder, "office.db", b"".join(PUTS[:2]))
     served_one(program, folder, "office.db", True, 900)
@@ -38,14 +45,14 @@ def older(program, folder):
 OFFICES = {"a young office": young, "an older one": older}
 
 
-def commits(log):
+def commits(log: pathlib.Path) -> tuple[int, list[int]]:
     """How many frames a log has up to its end, and behind which of them a transaction ends."""
     read = book_log.Log(log)
     frames = [it.ends for it, _ in zip(read.frames(), range(read.lost()[0]))]
     return len(frames), [place + 1 for place, ends in enumerate(frames) if ends]
 
 
-def refuse(program, folder, row, log, every_start=False):
+def refuse(program: pathlib.Path, folder: pathlib.Path, row: object, log: bytes, every_start: bool = False) -> None:
     """With these bytes as its log a database is refused, by an audit or by each start too, and both files stay."""
     (folder / "office.db-wal").write_bytes(log)
     held = held_by(folder)
@@ -54,11 +61,11 @@ def refuse(program, folder, row, log, every_start=False):
     told((row, "the files"), held_by(folder) == held, True)
 
 
-def flipped(log, bit):
+def flipped(log: bytes, bit: int) -> bytes:
     return log[: bit // 8] + bytes([log[bit // 8] ^ 1 << bit % 8]) + log[bit // 8 + 1 :]
 
 
-def over_each_office(program, folder):
+def over_each_office(program: pathlib.Path, folder: pathlib.Path) -> Iterator[tuple[str, pathlib.Path, bytes, int, list[int]]]:
     """Each kind of office in a folder of its own, with the bytes of its log, its frames and where its transactions end."""
     for row, make in OFFICES.items():
         room = folder / row
@@ -67,18 +74,18 @@ def over_each_office(program, folder):
         log = (room / "office.db-wal").read_bytes()
         yield row, room, log, *commits(room / "office.db-wal")
         (room / "office.db-wal").write_bytes(log)
-        told((row, "as it was"), audited(program, room), SOUND)
+        told((row, "as it was"), audited(program, room / "office.db"), SOUND)
 
 
 @trial
-def each_bit_of_a_logs_header(program, folder):
+def each_bit_of_a_logs_header(program: pathlib.Path, folder: pathlib.Path) -> None:
     for row, room, log, _, _ in over_each_office(program, folder):
         for bit in range(8 * book_log.HEADER):
             refuse(program, room, (row, "bit", bit), flipped(log, bit), bit % 32 == 0)
 
 
 @trial
-def changed_bits_of_a_log(program, folder):
+def changed_bits_of_a_log(program: pathlib.Path, folder: pathlib.Path) -> None:
     """Each of some bits up to the log's end is told, but for those that a stop leaves so: the last transaction, which is not ended yet."""
     chance = random.Random(94)
     for row, room, log, frames, ends in over_each_office(program, folder):
@@ -88,11 +95,11 @@ def changed_bits_of_a_log(program, folder):
             if bit // 8 != gates[-1]:
                 refuse(program, room, (row, "bit", bit), flipped(log, bit), bit % 50 == 0)
         (room / "office.db-wal").write_bytes(flipped(log, 8 * gates[-1]))
-        told((row, "a last transaction that is not ended"), audited(program, room), SOUND)
+        told((row, "a last transaction that is not ended"), audited(program, room / "office.db"), SOUND)
 
 
 @trial
-def logs_that_were_cut(program, folder):
+def logs_that_were_cut(program: pathlib.Path, folder: pathlib.Path) -> None:
     """Behind each frame and within it, up to the header's last byte."""
     for row, room, log, frames, _ in over_each_office(program, folder):
         for place in range(frames + 1):
@@ -102,7 +109,7 @@ def logs_that_were_cut(program, folder):
 
 
 @trial
-def zeros_in_a_log(program, folder):
+def zeros_in_a_log(program: pathlib.Path, folder: pathlib.Path) -> None:
     chance = random.Random(95)
     for row, room, log, frames, ends in over_each_office(program, folder):
         last = book_log.HEADER + ends[-2] * FRAME
@@ -114,8 +121,9 @@ def zeros_in_a_log(program, folder):
 
 
 @trial
-def a_log_that_is_begun_anew(program, folder):
-    """Once all of it is in the file the log loses its first byte, then its header: both are taken where the file has its pages, and not before."""
+def a_log_that_is_begun_anew(program: pathlib.Path, folder: pathlib.Path) -> None:
+    """Once all of it is in the file the log loses its first byte, then its header: both are taken where the file has its pages, and not
+    before."""
     young(program, folder)
     log = (folder / "office.db-wal").read_bytes()
     whole = folder / "whole.db"
@@ -126,11 +134,11 @@ def a_log_that_is_begun_anew(program, folder):
     shutil.copyfile(whole, folder / "office.db")
     for row, held in shut.items():
         (folder / "office.db-wal").write_bytes(held)
-        told((row, "its pages are in the file"), audited(program, folder), SOUND)
+        told((row, "its pages are in the file"), audited(program, folder / "office.db"), SOUND)
 
 
 @trial
-def a_database_without_a_table(program, folder):
+def a_database_without_a_table(program: pathlib.Path, folder: pathlib.Path) -> None:
     """It is no office, and is not begun as one without page sums; its bytes stay."""
     path = folder / "office.db"
     database = sqlite3.connect(path)
@@ -156,7 +164,7 @@ os.kill(os.getpid(), signal.SIGKILL)
 
 
 @trial
-def logs_that_sqlite_left(program, folder):
+def logs_that_sqlite_left(program: pathlib.Path, folder: pathlib.Path) -> None:
     """Each is read as one, whatever its end: the database has other tables, and its file stays."""
     schema = Ended(b"", b"society: database schema\n", 1)
     for turns in (1, 9, 19, 33, 60):
@@ -164,5 +172,5 @@ def logs_that_sqlite_left(program, folder):
         room.mkdir()
         subprocess.run([sys.executable, "-c", WRITES, room / "office.db", str(turns)], check=False)
         held = (room / "office.db").read_bytes()
-        told((turns, "an audit"), audited(program, room), schema)
+        told((turns, "an audit"), audited(program, room / "office.db"), schema)
         told((turns, "its file"), (room / "office.db").read_bytes() == held, True)

@@ -1,18 +1,20 @@
 """A process that is stopped and goes on again: no peer is cut off, and nobody's answer is lost."""
 import os
+import pathlib
 import signal
 import socket
 import time
 
-from common import FIRST, SENDER, get, put_file, works_file
-from program import LIMIT, Ended, Server, acknowledgement, answer, applied, told, trial
+from bodies import FIRST, SENDER, get, put_file, works_file
+from served import Ended, connected, read_all
+from program import Server, acknowledgement, answer, applied, told, trial
 
 FRONT = get(f"/v1/senders/{SENDER}")
 ASKED = put_file(FIRST, 1)
 HEAD = ASKED.index(b"\r\n\r\n")
 
 
-def paused(server):
+def paused(server: Server) -> None:
     """Stops the program as a backup does, and lets it go on."""
     time.sleep(0.3)
     os.kill(server.process.pid, signal.SIGSTOP)
@@ -20,11 +22,7 @@ def paused(server):
     os.kill(server.process.pid, signal.SIGCONT)
 
 
-def connected(server):
-    return socket.create_connection(("127.0.0.1", server.port), LIMIT)
-
-
-def received(peer, wanted):
+def received(peer: socket.socket, wanted: bytes) -> bytes:
     """So many bytes as are wanted."""
     return peer.recv(len(wanted), socket.MSG_WAITALL)
 
@@ -34,9 +32,9 @@ PLACES = [("before a byte", 0), ("in a head", 20), ("between head and body", HEA
 
 
 @trial
-def paused_while_a_request_comes(program, folder):
+def paused_while_a_request_comes(program: pathlib.Path, folder: pathlib.Path) -> None:
     for row, came in PLACES:
-        with Server(program, folder, f"{came}.db") as server, connected(server) as peer:
+        with Server(program, folder, f"{came}.db") as server, connected(server.port) as peer:
             peer.sendall(ASKED[:came])
             paused(server)
             peer.sendall(ASKED[came:])
@@ -50,19 +48,19 @@ def paused_while_a_request_comes(program, folder):
 
 
 @trial
-def paused_while_it_waits_for_a_peer(program, folder):
+def paused_while_it_waits_for_a_peer(program: pathlib.Path, folder: pathlib.Path) -> None:
     with Server(program, folder, "office.db") as server:
         paused(server)
         told("the peer that comes then", server.sent(ASKED), applied(1))
 
 
 @trial
-def paused_while_an_answer_is_written(program, folder):
+def paused_while_an_answer_is_written(program: pathlib.Path, folder: pathlib.Path) -> None:
     """The peer reads nothing until the program has gone on; then it gets each answer, whole."""
     asked = 200
     with Server(program, folder, "office.db", connections=2) as server:
         server.sent(put_file(works_file(1, 900), 1))
-        with connected(server) as peer:
+        with connected(server.port) as peer:
             peer.sendall(acknowledgement(1))
             first = peer.recv(1 << 20)
             while len(first) < (whole := first.index(b"\r\n\r\n") + 4 + int(first.split(b"Content-Length: ")[1].split(b"\r")[0])):
@@ -72,5 +70,5 @@ def paused_while_an_answer_is_written(program, folder):
             for _ in range(3):
                 paused(server)
             peer.shutdown(socket.SHUT_WR)
-            told("all others", b"".join(iter(lambda: peer.recv(1 << 20), b"")) == asked * first, True)
+            told("all others", read_all(peer) == asked * first, True)
         told("its line", server.ended().out.splitlines()[2], b"connection 2: %d requests" % (asked + 1))

@@ -17,9 +17,11 @@ import re
 import shutil
 import socket
 import subprocess
+from collections.abc import Iterable
 
-from common import CSV_HEADER, FIRST, NO_WORKS, OFFICE, REVISION, SENDER, get, order_body, request
-from program import EMPTY_DATABASE, LIMIT, Ended, Other, Server, run, told, trial
+from bodies import CSV_HEADER, FIRST, NO_WORKS, REVISION, SENDER, get, order_body, request
+from program import EMPTY_DATABASE, Other, Server, audited, told, trial
+from served import Ended, connected
 
 PATH = f"/v1/senders/{SENDER}"
 BUSY = b'{"error":"busy"}'
@@ -79,11 +81,11 @@ PAID = [["RADIO1", 1]]
 AT_3, MORE_AT_3 = order_body(1001, [[SENDER, 3]], PAID), order_body(1002, [[SENDER, 3]], PAID)
 
 
-def put(path, body):
+def put(path: str, body: bytes) -> bytes:
     return request("PUT", path, body)
 
 
-def put_file(number, body):
+def put_file(number: int, body: bytes) -> bytes:
     return put(f"{PATH}/transmissions/{number}", body)
 
 
@@ -127,7 +129,7 @@ ROWS = {
 }
 
 
-def compiled(folder):
+def compiled(folder: pathlib.Path) -> str:
     """The library that refuses."""
     if not shutil.which("cc"):
         raise Other("there is no `cc`, which compiles what refuses memory")
@@ -145,9 +147,9 @@ class Tried:
     library: str
     name: str
     later: bool
-    answers: list = dataclasses.field(default_factory=list)
+    answers: list[bytes] = dataclasses.field(default_factory=list)
 
-    def server(self, folder, k):
+    def server(self, folder: pathlib.Path, k: int) -> Server:
         """A server over a file that is not there, whose k-th allocation is refused; none where k is 0."""
         for left in folder.iterdir():
             left.unlink()
@@ -156,23 +158,23 @@ class Tried:
         return Server(self.program, folder, "office.db", connections=1_000_000, env=refusal)
 
 
-def was_refused(folder):
+def was_refused(folder: pathlib.Path) -> bool:
     return (folder / "mark").exists()
 
 
-def ask(server, asked):
+def ask(server: Server, asked: bytes) -> tuple[bytes, bytes]:
     """What is written for one request on a connection of its own, and the server's line on it."""
     parts = []
-    with socket.create_connection(("127.0.0.1", server.port), LIMIT) as peer, contextlib.suppress(OSError):
+    with connected(server.port) as peer, contextlib.suppress(OSError):
         # Where it is given up before the first read, the rest of this may find no peer.
         peer.sendall(asked)
         peer.shutdown(socket.SHUT_WR)
         while part := peer.recv(65536):
             parts.append(part)
-    return b"".join(parts), re.sub(rb"^connection \d+: ", b"", server.process.stdout.readline())
+    return b"".join(parts), re.sub(rb"^connection \d+: ", b"", server.out.readline())
 
 
-def answers_of(tried, folder):
+def answers_of(tried: Tried, folder: pathlib.Path) -> list[bytes]:
     """The row's answers with ample memory."""
     answers = []
     with tried.server(folder, 0) as server:
@@ -184,24 +186,24 @@ def answers_of(tried, folder):
     return answers
 
 
-def is_refusal(text, line):
+def is_refusal(text: bytes, line: bytes) -> bool:
     """Whether a request was refused because memory was: 503, or nothing at all."""
     if line == b"memory fault after 0 requests\n":
         return text == b""
     return text.startswith(b"HTTP/1.1 503 ") and text.endswith(BUSY)
 
 
-def check_start(tried, folder, server):
+def check_start(tried: Tried, folder: pathlib.Path, server: Server) -> str:
     """Where it does not listen it says why in one line, and its file is no office's yet or a new one's."""
     ended = server.ended()
     is_told = ended.err in MEMORY or ended.err.startswith(b"society: cannot ")
     told("the end of a start", (is_told, ended.status), (True, 1))
     if (folder / "office.db").exists():
-        told("its file", run(tried.program, folder, ["audit", "--db", "office.db", *OFFICE]) in LEFT, True)
+        told("its file", audited(tried.program, folder / "office.db") in LEFT, True)
     return "a start"
 
 
-def check_requests(server, requests):
+def check_requests(server: Server, requests: Iterable[tuple[bytes, bytes]]) -> str:
     """Sends the row; what was refused of it."""
     seen = "nothing"
     for asked, wanted in requests:
@@ -214,7 +216,7 @@ def check_requests(server, requests):
     return seen
 
 
-def check_run(tried, folder, k):
+def check_run(tried: Tried, folder: pathlib.Path, k: int) -> str | None:
     """How a run goes whose k-th allocation is refused; none where it has fewer."""
     with tried.server(folder, k) as server:
         if server.first != b"listening\n":
@@ -224,10 +226,10 @@ def check_run(tried, folder, k):
     return seen if was_refused(folder) else None
 
 
-def check_share(tried, folder, first, step):
+def check_share(tried: Tried, folder: pathlib.Path, first: int, step: int) -> collections.Counter[str]:
     """Refuses the first allocation and each that comes a step later, and counts what was refused so."""
     folder.mkdir()
-    counts = collections.Counter()
+    counts = collections.Counter[str]()
     for k in range(first, 1_000_000, step):
         try:
             seen = check_run(tried, folder, k)
@@ -244,7 +246,7 @@ IN_TURN = [("first_acknowledgement", False, ["a start"]), *((it, True, ["a conne
 
 
 @trial
-def each_allocation_is_refused_in_turn(program, folder):
+def each_allocation_is_refused_in_turn(program: pathlib.Path, folder: pathlib.Path) -> None:
     library, shares = compiled(folder), 2 * (os.cpu_count() or 1)
     # (each process has a Python of its own, since this one has threads in the gate)
     with concurrent.futures.ProcessPoolExecutor(shares, multiprocessing.get_context("spawn")) as pool:
@@ -257,5 +259,5 @@ def each_allocation_is_refused_in_turn(program, folder):
             counted = [pool.submit(check_share, tried, folder / f"{name} {later} {it}", 1 + it, shares) for it in range(shares)]
             shared.append((name, kinds, counted))
         for name, kinds, counted in shared:
-            counts = sum((it.result() for it in counted), collections.Counter())
+            counts = sum((it.result() for it in counted), collections.Counter[str]())
             told((name, counts), [it for it in kinds if counts[it] == 0], [])

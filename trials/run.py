@@ -10,42 +10,33 @@ A line tells of each trial that fails; the status is 1 then. The gate runs them 
 """
 import argparse
 import concurrent.futures
+import importlib
 import pathlib
 import subprocess
 import sys
 import tempfile
+from collections.abc import Iterator
 
-from program import ROOT, TRIALS, Other, common
+from program import ROOT, TRIALS, Other, Trial
 
-# Each of these adds its trials.
-import arguments
-import connections
-import credits
-import damages
-import endings
-import files
-import flips
-import greatest
-import leaving
-import logs
-import openings
-import pauses
-import readings
-import refused_memory
-import sizes
-import streams
+from served import program_at_hand
+
+# Each other file of this folder adds its trials.
+for name in sorted(it.stem for it in pathlib.Path(__file__).resolve().parent.glob("*.py")):
+    if name not in ("run", "program"):
+        importlib.import_module(name)
 
 BUILT = ROOT / "crates/society/out/society"
 
 
-def builds():
+def builds() -> list[pathlib.Path]:
     """The program as each compiler of `rt ci` built it."""
     by_rattle = BUILT.with_name("society.by-rattle")
     # (what Rattle's own compiler does not compile, `rt ci` tells of and passes)
     return [BUILT, *[by_rattle] * by_rattle.exists()]
 
 
-def failures(tried, trials):
+def failures(tried: pathlib.Path, trials: list[Trial]) -> Iterator[str]:
     """A line for each of these trials that a program fails."""
     for it in trials:
         with tempfile.TemporaryDirectory() as folder:
@@ -55,8 +46,9 @@ def failures(tried, trials):
                 yield f"{tried.name}: {it.__name__} FAILED: {why}"
 
 
-def check(programs, word=""):
-    """Runs all trials with this word in their names over each program, one program beside the other, and gives how many passed and failed."""
+def check(programs: list[pathlib.Path], word: str = "") -> tuple[int, int]:
+    """Runs all trials with this word in their names over each program, one program beside the other, and gives how many passed and
+    failed."""
     trials = [it for it in TRIALS if word in it.__name__]
     passed = failed = 0
     with concurrent.futures.ThreadPoolExecutor(len(programs)) as pool:
@@ -66,16 +58,16 @@ def check(programs, word=""):
     return passed, failed
 
 
-def main():
+def main() -> int:
     options = argparse.ArgumentParser(description=__doc__, formatter_class=argparse.RawDescriptionHelpFormatter)
     options.add_argument("--only", metavar="WORD", default="", help="the trials with this word in their names (default: all)")
     options.add_argument("programs", metavar="PROGRAM", nargs="*", type=pathlib.Path, help="(default: the program that bin/society runs)")
     options.epilog = "trials:\n" + "\n".join(f"  {it.__name__}" for it in TRIALS)
-    options = options.parse_args()
-    if not any(options.only in it.__name__ for it in TRIALS):
-        sys.exit(f"no trial has {options.only} in its name; `trials/run.py --help` lists them")
-    named = [it.resolve() for it in options.programs] or [common.program_at_hand()]
-    passed, failed = check(named, options.only)
+    given = options.parse_args()
+    if not any(given.only in it.__name__ for it in TRIALS):
+        sys.exit(f"no trial has {given.only} in its name; `trials/run.py --help` lists them")
+    named = [it.resolve() for it in given.programs] or [program_at_hand()]
+    passed, failed = check(named, given.only)
     return int(failed > 0 or not passed)
 
 

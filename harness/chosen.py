@@ -41,7 +41,7 @@ int main(int count, char **words) {
 """
 
 
-def numbers(count, bits):
+def numbers(count: int, bits: int) -> list[bytes]:
     """So many chosen numbers, of a table of as many groups as so many bits can name."""
     if not shutil.which("cc"):
         raise OSError("there is no `cc`, which compiles the search")
