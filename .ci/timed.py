@@ -1,12 +1,13 @@
 #!/usr/bin/env python3
-"""Runs `rt ci` and the must-fail edits, the trials of the built program and the tests of society-office, looks what the program calls of the
-machine and whether docs/TOUR.md and CONTRIBUTING.md name what is there, and passes on what all of them print. Before its last line, which
-counts all, it tells the processor minutes of each crate and part, and whether release/society is the program that was built.
+"""Runs `rt ci` and the must-fail edits, the trials of the built program and the tests of society-office, looks what the program calls of
+the machine, what flake8, mypy and shellcheck say of the sources in Python and shell, and whether the documents name what is there, and
+passes on what all of them print. Before its last line, which counts all, it tells the processor minutes of each crate and part, and whether
+release/society is the program that was built.
 
-`rt ci` runs on a copy of the checkout without the edits, which edits.py tries beside it, those of a crate once that is proved. A part is what
-a process of the prover works on: a proof, a crate's tests, or edits. Processes are looked at twice a second, so what a process did in its
-last half second counts under 'other', as do rt itself, linking, and the tests and programs that are run. A run that is ended (SIGTERM) ends
-all that it began, tells what it had done, and has the status 143.
+`rt ci` runs on a copy of the checkout without the edits, which edits.py tries beside it, those of a crate once that is proved. A part is
+what a process of the prover works on: a proof, a crate's tests, or edits. Processes are looked at twice a second, so what a process did in
+its last half second counts under 'other', as do rt itself, linking, and the tests and programs that are run. A run that is ended (SIGTERM)
+ends all that it began, tells what it had done, and has the status 143.
 """
 import collections
 import contextlib
@@ -22,15 +23,20 @@ import sys
 import tempfile
 import threading
 import time
+from collections.abc import Callable, Iterable, Iterator
+from typing import NoReturn
 
 sys.path.append(os.path.join(os.path.dirname(os.path.abspath(__file__)), "..", "trials"))
-import calls
-import documents
-import edits
-import release
-import run as trials
+import calls  # noqa: E402 (the folder comes first)
+import documents  # noqa: E402
+import edits  # noqa: E402
+import release  # noqa: E402
+import run as trials  # noqa: E402
+import sources  # noqa: E402
 
 PARTS = ("proofs", "tests", "edits")
+# The folders whose sources are read here; office/check reads its own.
+GATE_READS = tuple(it for it in sources.FOLDERS if it != "office")
 LAST_LINE = re.compile(r"(\d+) passed, (\d+) failed\s*")
 # What `rt ci` says once a crate is proved, whose libraries are built then.
 PROVED = re.compile(r"rt: (\w+) (?:proved$|is kept: )")
@@ -38,9 +44,11 @@ TICKS = os.sysconf("SC_CLK_TCK")
 # What a process asks for that is to have the children of those under it that end (prctl), and the status of a run that is ended.
 SET_CHILD_SUBREAPER = 36
 STATUS_ENDED = 128 + signal.SIGTERM
+# Of a process its parent, when it began, its processor seconds, and its state.
+State = tuple[str, str, float, str]
 
 
-def words_of(process):
+def words_of(process: str) -> list[str]:
     """The words of a process, none where it has ended."""
     try:
         with open(f"/proc/{process}/cmdline", "rb") as file:
@@ -49,9 +57,9 @@ def words_of(process):
         return []
 
 
-def state_of(process):
-    """The parent of a process, when it began, the processor seconds of it and of the children that it waited for, and its state in a letter, Z
-    where its parent has not waited for its end; none where it has ended."""
+def state_of(process: str) -> State | None:
+    """The parent of a process, when it began, the processor seconds of it and of the children that it waited for, and its state in a
+    letter, Z where its parent has not waited for its end; none where it has ended."""
     try:
         with open(f"/proc/{process}/stat", encoding="utf-8", errors="replace") as file:
             fields = file.read().rpartition(")")[2].split()
@@ -60,20 +68,20 @@ def state_of(process):
     return fields[1], fields[19], sum(int(it) for it in fields[11:15]) / TICKS, fields[0]
 
 
-def states():
+def states() -> dict[str, State]:
     """The state of each process."""
     found = {process: state_of(process) for process in os.listdir("/proc") if process.isdigit()}
     return {process: state for process, state in found.items() if state}
 
 
-def is_under_this(process, known):
+def is_under_this(process: str, known: dict[str, State]) -> bool:
     """Whether a process is this one or was begun under it, by the states that are known."""
     while process in known and process != str(os.getpid()):
         process = known[process][0]
     return process == str(os.getpid())
 
 
-def folder_of(process):
+def folder_of(process: str) -> str:
     """The name of the folder in which a process works, none where it has ended."""
     try:
         return os.path.basename(os.readlink(f"/proc/{process}/cwd"))
@@ -85,14 +93,14 @@ class Stopped(BaseException):
     """The run was asked to end (SIGTERM). It is no `Exception`, which what is under way may take for one of its own."""
 
 
-def running_under_this():
+def running_under_this() -> list[str]:
     """The processes under this one that have not ended, without Python's own, which clears away once its other processes have ended."""
     known, own = states(), str(os.getpid())
     under = [it for it, state in known.items() if it != own and state[3] != "Z" and is_under_this(it, known)]
     return [it for it in under if "resource_tracker" not in str(words_of(it))]
 
 
-def end_all():
+def end_all() -> None:
     """Ends every process under this one, also those that are begun meanwhile."""
     # (what a disk keeps from ending is not waited for longer than this)
     for _ in range(100):
@@ -106,11 +114,12 @@ def end_all():
 
 
 # The tries of edits, once they have begun.
-TRIES = []
+TRIES: list[edits.Tries] = []
 
 
-def stop(_signal, _frame):
-    """Ends the run by an exception, so that what was measured is still told. What it began is ended first, since it is waited for on the way."""
+def stop(_signal: int, _frame: object) -> NoReturn:
+    """Ends the run by an exception, so that what was measured is still told. What it began is ended first, since it is waited for on the
+    way."""
     signal.signal(signal.SIGTERM, signal.SIG_IGN)
     ctypes.CDLL(None).prctl(SET_CHILD_SUBREAPER, 1, 0, 0, 0)
     for it in TRIES:
@@ -122,11 +131,12 @@ def stop(_signal, _frame):
 class Meter:
     """The processor seconds of each process of the prover under this one, by crate and part."""
 
-    def __init__(self):
-        self.spent = {}
+    def __init__(self) -> None:
+        # By the number of a process and its beginning its crate and part, and the processor seconds.
+        self.spent: dict[tuple[str, str], tuple[tuple[str, str], float]] = {}
         self.ended = threading.Event()
 
-    def kind_of(self, process, words):
+    def kind_of(self, process: str, words: list[str]) -> tuple[str, str] | None:
         """The crate and the part of a process of the prover, none for another process."""
         if len(words) < 2 or os.path.basename(words[0]) != "rattle" or "--crate-name" not in words:
             return None
@@ -135,7 +145,7 @@ class Meter:
             return crate, "edits"
         return crate, "tests" if "--test" in words else "proofs"
 
-    def look(self):
+    def look(self) -> None:
         """Reads how far each process of the prover is."""
         known = states()
         for process, (parent, begun, seconds, _) in known.items():
@@ -148,13 +158,13 @@ class Meter:
             if kind:
                 self.spent[key] = kind, seconds
 
-    def run(self):
+    def run(self) -> None:
         while not self.ended.wait(0.5):
             self.look()
 
-    def table(self, minutes):
+    def table(self, minutes: float) -> Iterator[str]:
         """Lines that tell the processor minutes of each crate, of each part and in all, and the minutes that went by."""
-        by_crate = collections.defaultdict(collections.Counter)
+        by_crate: dict[str, dict[str, float]] = collections.defaultdict(lambda: dict.fromkeys(PARTS, 0.0))
         for (crate, part), seconds in self.spent.values():
             by_crate[crate][part] += seconds / 60
         total = sum(resource.getrusage(resource.RUSAGE_CHILDREN)[:2]) / 60
@@ -168,14 +178,14 @@ class Meter:
 
 
 @contextlib.contextmanager
-def copied(top):
+def copied(top: pathlib.Path) -> Iterator[pathlib.Path]:
     """A copy of a checkout, without its edits and without what was built; at the end what was built in it is moved to the checkout."""
     git = top / ".git"
     with tempfile.TemporaryDirectory(prefix="gate-", dir=git if git.is_dir() else None) as room:
         copy = pathlib.Path(room, "checkout")
         crates = [str(it) for it in (top / "crates").iterdir()]
 
-        def left_out(folder, names):
+        def left_out(folder: str, names: list[str]) -> set[str]:
             return {it for it in names if it == ".git" or folder in crates and it in ("out", "must-fail")}
 
         shutil.copytree(top, copy, symlinks=True, ignore=left_out)
@@ -188,7 +198,7 @@ def copied(top):
                 moved(it, top / it.relative_to(copy))
 
 
-def moved(one, to):
+def moved(one: pathlib.Path, to: pathlib.Path) -> None:
     """Moves a file or a folder, in the place of what is there."""
     to.parent.mkdir(parents=True, exist_ok=True)
     if to.is_dir() and not to.is_symlink():
@@ -198,12 +208,12 @@ def moved(one, to):
     shutil.move(one, to)
 
 
-def passed_on(words, folder, tell):
+def passed_on(words: list[str], folder: pathlib.Path, tell: Callable[[str], object]) -> tuple[int, list[int]]:
     """Runs a command in a folder and passes on what it prints but its last line, each line also to `tell`; gives its status, and how many
     passed and failed by that line, none where there was none."""
     counts = []
     with subprocess.Popen(words, cwd=folder, stdin=subprocess.DEVNULL, stdout=subprocess.PIPE, text=True, errors="replace") as ran:
-        for line in ran.stdout:
+        for line in ran.stdout or ():
             last = LAST_LINE.fullmatch(line)
             if last:
                 counts = [int(it) for it in last.groups()]
@@ -213,14 +223,14 @@ def passed_on(words, folder, tell):
     return ran.returncode, counts
 
 
-def proved(words, kit):
+def proved(words: list[str], kit: pathlib.Path) -> tuple[int, list[int]]:
     """Runs `rt ci` on a copy of the checkout, and the edits of each crate once that is proved; gives its status, and how many passed and
     failed of both."""
     with copied(release.TOP) as copy:
         tries = edits.Tries(kit, copy / "crates")
         TRIES.append(tries)
 
-        def tell(line):
+        def tell(line: str) -> None:
             found = PROVED.match(line)
             if found:
                 tries.begin(found[1])
@@ -233,39 +243,42 @@ def proved(words, kit):
     return status, counts
 
 
-def tools_checked(program):
-    """How many tests of society-office (office/) passed and failed over a program. What its script prints is passed on; where it fails without
-    a test's word, that counts as one that failed."""
+def tools_checked(program: pathlib.Path) -> tuple[int, int]:
+    """How many tests of society-office (office/) passed and failed over a program. What its script prints is passed on; where it fails
+    without a test's word, that counts as one that failed."""
     line, environment = "", {**os.environ, "SOCIETY_PROGRAM": str(program)}
-    how = {"stdin": subprocess.DEVNULL, "stdout": subprocess.PIPE, "stderr": subprocess.STDOUT, "env": environment}
-    with subprocess.Popen([str(release.TOP / "office/check")], text=True, errors="replace", **how) as ran:
-        for line in ran.stdout:
+    words, both = [release.TOP / "office/check"], subprocess.STDOUT
+    with subprocess.Popen(
+        words, stdin=subprocess.DEVNULL, stdout=subprocess.PIPE, stderr=both, env=environment, text=True, errors="replace"
+    ) as ran:
+        for line in ran.stdout or ():
             print(line, end="", flush=True)
     passed, failed = (sum(int(it) for it in re.findall(rf"(\d+) (?:{word})", line)) for word in ("passed", "failed|errors?"))
     return passed, failed or int(ran.returncode != 0)
 
 
-def added(counts, others):
+def added(counts: Iterable[int], others: Iterable[int]) -> list[int]:
     """How many passed and failed in both."""
     return [one + other for one, other in zip(counts, others)]
 
 
-def checked(words):
-    """The status of the run of `rt ci`, how many passed and failed of it, of the edits and of all that is tried of the program then, and a line on
-    the release. A program that was not proved, or is not built, is neither tried nor compared."""
-    kit = pathlib.Path(shutil.which("rt")).resolve().parent.parent
+def checked(words: list[str]) -> tuple[int, list[int], list[str]]:
+    """The status of the run of `rt ci`, how many passed and failed of it, of the edits and of all that is tried of the program then, and a
+    line on the release. A program that was not proved, or is not built, is neither tried nor compared."""
+    kit = calls.kit_at_hand()
     status, counts = proved(words, kit)
     if status != 0:
         return status, counts, []
     counts = added(counts, calls.checked(kit))
     counts = added(counts, trials.check(trials.builds()))
     counts = added(counts, tools_checked(release.built_in(release.TOP)))
+    counts = added(counts, sources.check(GATE_READS))
     counts = added(counts, documents.check())
     line, is_right = release.compared()
     return status, added(counts, (0, int(not is_right))), [line]
 
 
-def main():
+def main() -> int:
     release.unmark()
     signal.signal(signal.SIGTERM, stop)
     meter, begun, begun_with = Meter(), time.monotonic(), ""

@@ -8,20 +8,22 @@
 Run it anywhere in the repository. A value is a number or a text in a file of tests: a module that the root of its crate names
 under cfg(test), and the library of sample bodies; a script of trials/ is one too, and each trial a test. "a" and b"a" are one value, and a
 text of five bytes or more is not listed where it stands within another of AFTER. The rows over bytes count too, also where they stand in
-another folder: each row and each folder of rows is a test by its name, each file is a text, and so is each number in one; a row is listed too
-whose requests or answers are other bytes. So do the files of the programs of cases: each group, each course and each stretch of one is a test by
-its name, and each line, body, word and number is a value, as is each line that a program with courses has to print. A test is not listed as lacking
-where AFTER has a row of its name, in a file or in a table of a test. A value that stands fewer times need not be a case that was dropped, since
-several tests may share one table or one sample: read the list.
+another folder: each row and each folder of rows is a test by its name, each file is a text, and so is each number in one; a row is listed
+too whose requests or answers are other bytes. So do the files of the programs of cases: each group, each course and each stretch of one is
+a test by its name, and each line, body, word and number is a value, as is each line that a program with courses has to print. A test is not
+listed as lacking where AFTER has a row of its name, in a file or in a table of a test. A value that stands fewer times need not be a case
+that was dropped, since several tests may share one table or one sample: read the list.
 """
 import ast
 import collections
 import re
 import subprocess
 import sys
+from collections.abc import Iterator
 
 LIBRARY_OF_BODIES = "test_bodies"
-# The files of the rows over bytes, and the file that says of each how many requests are answered: older revisions have a program for rows alone.
+# The files of the rows over bytes, and the file that says of each how many requests are answered: older revisions have a program for rows
+# alone.
 ROWS = re.compile(r"crates/(test_rows)/data/(.+)\.(http|answers)|crates/(test_desk)/data/rows/(.+)\.(http|answers)")
 COUNTS_OF_ROWS = {
     "crates/test_rows/stdout": re.compile(r"^(\S+): (\d+) requests, as wanted$", re.M),
@@ -30,6 +32,8 @@ COUNTS_OF_ROWS = {
 # Older revisions have a program for the stops alone.
 PROGRAMS_OF_CASES = ("test_cases", "test_desk", "test_tables", "test_stops")
 TRIALS = "trials"
+# A number, or a text.
+Value = int | bytes
 TOKEN = re.compile(
     r"""(?P<comment>//[^\n]*)
       |(?P<text>b?"(?:[^"\\]|\\.)*")
@@ -39,19 +43,19 @@ TOKEN = re.compile(
 )
 
 
-def git_bytes(*words):
+def git_bytes(*words: str) -> bytes:
     return subprocess.run(["git", *words], capture_output=True, check=True).stdout
 
 
-def git(*words):
+def git(*words: str) -> str:
     return git_bytes(*words).decode()
 
 
-def files(revision):
+def files(revision: str) -> list[str]:
     return git("ls-tree", "-r", "--name-only", "--full-tree", revision).splitlines()
 
 
-def test_files(revision, names):
+def test_files(revision: str, names: list[str]) -> Iterator[tuple[str, str]]:
     """The crate and the path of each file of tests."""
     for root in names:
         found = re.fullmatch(r"crates/(\w+)/src/(?:lib|main)\.rt", root)
@@ -69,7 +73,7 @@ def test_files(revision, names):
                     yield crate, name
 
 
-def rows(revision, names):
+def rows(revision: str, names: list[str]) -> Iterator[tuple[str, str, str, bytes]]:
     """Each file of rows: its crate, the row, its ending, and what it holds."""
     for name in names:
         found = ROWS.fullmatch(name)
@@ -78,14 +82,14 @@ def rows(revision, names):
             yield crate, row, ending, git_bytes("show", f"{revision}:{name}")
 
 
-def counts_of_rows(revision, names):
+def counts_of_rows(revision: str, names: list[str]) -> Iterator[tuple[str, str]]:
     """Each row that a program asks, and how many requests of it are answered."""
     for name, said in COUNTS_OF_ROWS.items():
         if name in names:
             yield from said.findall(git("show", f"{revision}:{name}"))
 
 
-def written(text):
+def written(text: str) -> bytes:
     """The bytes that a text of a file of cases writes: those within its quotes, if it has them."""
     inside = text[1:-1] if len(text) > 1 and text[0] == text[-1] == '"' else text
     raw = inside.encode()
@@ -94,7 +98,7 @@ def written(text):
     return re.sub(rb"\\x([0-9A-F]{2})", lambda digits: bytes([int(digits[1], 16)]), raw)
 
 
-def case_values(text):
+def case_values(text: str) -> Iterator[Value]:
     """The values of a file of cases: each of its lines, words and numbers, and the bodies that its lines make."""
     body = b""
     for line in [*text.splitlines(), ": "]:
@@ -110,7 +114,7 @@ def case_values(text):
         yield from (int(number) for number in re.findall(r"(?<!\w)\d+(?!\w)", line))
 
 
-def courses(text):
+def courses(text: str) -> Iterator[str]:
     """The courses of a file, each by its name, and behind each its stretches: what they do, and in which course."""
     course = ""
     for line in text.splitlines():
@@ -121,19 +125,19 @@ def courses(text):
             yield f"{line}, in: {course}"
 
 
-def value(token):
+def value(token: re.Match[str]) -> Value:
     if token["number"]:
         return int(token["number"].replace("_", ""))
     text = token["text"] or token["byte"]
     if text.startswith("b'"):
-        return ast.literal_eval(text)
+        return bytes(ast.literal_eval(text))
     text = re.sub(r"\\u\{(\w+)\}", lambda code: "\\U" + code[1].zfill(8), text)
     text = re.sub(r"\\\n\s*", "", text)
     read = ast.literal_eval(text.replace("\n", "\\n"))
-    return read if isinstance(read, bytes) else read.encode()
+    return read if isinstance(read, bytes) else str(read).encode()
 
 
-def trial_values(text):
+def trial_values(text: str) -> Iterator[Value]:
     """The numbers and texts of a script."""
     for node in ast.walk(ast.parse(text)):
         if isinstance(node, ast.Constant) and isinstance(node.value, (int, str, bytes)):
@@ -141,10 +145,10 @@ def trial_values(text):
 
 
 class Cases:
-    def __init__(self, revision):
+    def __init__(self, revision: str) -> None:
         names = files(revision)
-        self.tests, self.values, self.edits = [], collections.Counter(), []
-        self.counts = collections.defaultdict(collections.Counter)
+        self.tests, self.values, self.edits = list[tuple[str, str, str]](), collections.Counter[Value](), list[tuple[str, str]]()
+        self.counts: dict[str, collections.Counter[str]] = collections.defaultdict(collections.Counter)
         for crate, name in test_files(revision, names):
             text = git("show", f"{revision}:{name}")
             module = name.split("/src/")[1][:-3].replace("/", "::")
@@ -162,7 +166,8 @@ class Cases:
                 self.values.update(found)
                 self.counts[TRIALS].update(tests=len(trials), values=len(found))
         self.row_names = {item.decode(errors="replace") for item in self.values if isinstance(item, bytes)}
-        self.rows = collections.defaultdict(dict)
+        # Of each row its requests, its answers, and how many of them there are.
+        self.rows: dict[str, dict[str, bytes | str]] = collections.defaultdict(dict)
         self.add_rows(revision, names)
         self.add_sheets(revision, names)
         for name in names:
@@ -171,7 +176,7 @@ class Cases:
                 self.edits.append((edit[1], edit[2]))
                 self.counts[edit[1]].update(edits=1)
 
-    def add_rows(self, revision, names):
+    def add_rows(self, revision: str, names: list[str]) -> None:
         """Adds the rows over bytes."""
         for crate, row, ending, data in rows(revision, names):
             self.rows[row][ending] = data
@@ -185,7 +190,7 @@ class Cases:
         for row, count in counts_of_rows(revision, names):
             self.rows[row]["count"] = count
 
-    def add_sheets(self, revision, names):
+    def add_sheets(self, revision: str, names: list[str]) -> None:
         """Adds the files of cases and of courses, and the files that they take."""
         for name in names:
             sheet = re.fullmatch(rf"crates/({'|'.join(PROGRAMS_OF_CASES)})/data/(\w+)\.(\w+)", name)
@@ -206,19 +211,20 @@ class Cases:
             self.counts[crate].update(tests=len(groups), values=len(found))
 
 
-def print_counts(cases):
+def print_counts(cases: Cases) -> None:
     columns = ["tests", "values", "asserts", "edits"]
     print(f"{'crate':16}" + "".join(f"{column:>9}" for column in columns))
     rows = sorted(cases.counts.items())
-    total = collections.Counter()
+    total = collections.Counter[str]()
     for crate, counts in rows:
         total.update(counts)
         print(f"{crate:16}" + "".join(f"{counts[column]:9}" for column in columns))
     print(f"{'all':16}" + "".join(f"{total[column]:9}" for column in columns))
 
 
-def compare_rows(before, after):
-    """Prints each row over bytes that AFTER lacks, or has with other requests, other answers or another count; and how many are the same."""
+def compare_rows(before: Cases, after: Cases) -> None:
+    """Prints each row over bytes that AFTER lacks, or has with other requests, other answers or another count; and how many are the
+    same."""
     others = [row for row, files in before.rows.items() if after.rows.get(row) != files]
     for row in others:
         seen = after.rows.get(row, {})
@@ -226,7 +232,7 @@ def compare_rows(before, after):
     print(f"rows over bytes: {len(before.rows) - len(others)} of {len(before.rows)} are the same")
 
 
-def main():
+def main() -> None:
     if len(sys.argv) not in (2, 3) or sys.argv[1] in ("-h", "--help"):
         sys.exit(__doc__)
     before = Cases(sys.argv[1])
@@ -261,4 +267,5 @@ def main():
     print_counts(after)
 
 
-main()
+if __name__ == "__main__":
+    main()
