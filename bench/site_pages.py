@@ -66,9 +66,9 @@ def opened(browser, path, rest=""):
     browser.wait_for("document.readyState === 'complete' && location.protocol === 'file:'")
 
 
-def made(copy, folder, void=()):
+def made(copy, folder):
     with open_copy(copy) as opened_copy:
-        write_site(opened_copy, folder, list(void), {}, lambda _: None)
+        write_site(opened_copy, folder, None, lambda _: None)
         return work_index.Index(work_index.made(opened_copy))
 
 

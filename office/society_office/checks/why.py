@@ -11,6 +11,9 @@ from society_office.checks.work_faults import UTF_8, CheckedWork, checked_work, 
 from society_office.formats.numbering import Line, as_sent, counted, ranges, segment_text
 from society_office.works.records import sender_names, shown_number, transactions
 
+# How it begins what is said of a rejected work that a later file has.
+CURED = "registered since"
+
 
 @dataclasses.dataclass(frozen=True)
 class Rejected:
@@ -23,6 +26,11 @@ class Rejected:
     fault: int
     own: CheckedWork
     since: str
+
+    @property
+    def is_cured(self) -> bool:
+        """Whether a later file has registered it, or revised it."""
+        return self.since.startswith(CURED)
 
 
 @dataclasses.dataclass(frozen=True)
@@ -59,7 +67,7 @@ def since_text(registered: list[tuple[int, int]], number: int) -> str:
     """What is registered under the number of a work that was rejected in a file; its versions are its revisions and their files."""
     later = [it for it in registered if it[1] > number]
     if later:
-        return f"registered since: revision {later[-1][0]} with file {as_sent(later[-1][1])}"
+        return f"{CURED}: revision {later[-1][0]} with file {as_sent(later[-1][1])}"
     if registered:
         return f"revision {registered[-1][0]} of file {as_sent(registered[-1][1])} stands"
     return "not registered since"

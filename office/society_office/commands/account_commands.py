@@ -9,7 +9,8 @@ from society_office.basics.errors import OfficeError
 from society_office.basics.terminal import console
 from society_office.book.soundness import need_sound
 from society_office.closings.credit import asking
-from society_office.commands.command_words import COPY_HELP, PATH, POOL, Command, names_known, noted, with_decisions
+from society_office.commands.command_words import COPY_HELP, PATH, POOL, Command, known_of, names_known, noted
+from society_office.commands.command_words import with_decisions
 from society_office.credits import balances, explain_output
 from society_office.credits.explaining import Explainer
 from society_office.credits.lines import NO_RECORDING
@@ -50,14 +51,16 @@ def explain(
     """How each credit of an account in a pool came about.
 
     The plays of its recording by station and return, the recording's part of the pool, whose work it is, the account's share, and who
-    got the last units. The program itself says it, by the order alone; where the credits are others, that is said, with status 1.
+    got the last units; of a make-up what was due by the pools that it makes up, and was lacking. The program itself says it, by the
+    order alone; where the credits are others, that is said, with status 1.
     """
     wanted = isrc.upper().replace("-", "") if isrc and isrc != NO_RECORDING else isrc
     if wanted not in (None, NO_RECORDING) and not RECORDING.fullmatch(str(wanted).encode(errors="replace")):
         raise OfficeError(f"{isrc!r} is no ISRC: write ATABC2600001")
     with open_whole(copy) as opened:
-        names = names_known(noted(opened), folder)
-        found = Explainer(opened, pool, asking(find_program(), opened)).of(account, wanted)
+        known = known_of(noted(opened), folder)
+        names = known.pools if known else {}
+        found = Explainer(opened, pool, asking(find_program(), opened), known).of(account, wanted)
     if form == "table" and output is None:
         explain_output.show(found, names, console())
         return

@@ -20,10 +20,11 @@ from society_office.book.copy import beside
 from society_office.book.soundness import need_sound
 from society_office.checks import checking, why, why_output
 from society_office.closings.orders import LAST_POOL
+from society_office.closings.pool_ties import ties_of
 from society_office.commands import account_commands, closing_commands, decision_commands, dues_commands, money_commands, standby_commands
 from society_office.commands import work_commands
-from society_office.commands.command_words import COPY_HELP, NUMBER, PATH, POOL, PROGRAM_HELP, WRONG, Command, fail, looked_up
-from society_office.commands.command_words import names_known, noted, with_decisions
+from society_office.commands.command_words import COPY_HELP, NUMBER, PATH, POOL, PROGRAM_HELP, WRONG, Command, fail, known_of
+from society_office.commands.command_words import looked_up, noted, with_decisions
 from society_office.credits import parties, statement_output
 from society_office.credits.spans import Span
 from society_office.credits.statements import Statements
@@ -125,10 +126,11 @@ def statement(
         raise click.UsageError(f"--until {until} is below --since {since}")
     span = Span(since, until)
     with open_whole(copy) as opened:
-        names = names_known(noted(opened), folder)
+        known = known_of(noted(opened), folder)
+        names = known.pools if known else {}
         if into is not None:
             need_sound(opened, sums=True)
-            sys.exit(statement_output.write_each(opened, names, span, into, pdf))
+            sys.exit(statement_output.write_each(opened, names, ties_of(opened, known).all_notes(), span, into, pdf))
         statements = Statements(opened)
         if form == "csv":
             found = statement_output.write_csv(statements, key or "", names, span, output)
@@ -136,7 +138,7 @@ def statement(
                 say(f"{found.key}: {statement_output.verdict(found)}", error=True)
         else:
             found = statements.of(key or "", *span)
-            statement_output.write(found, names, form, output, opened.taken)
+            statement_output.write(found, names, ties_of(opened, known).all_notes(), form, output, opened.taken)
     if not found.agrees:
         fail(f"{found.key} has credits of {found.total:,} units, and a balance of {found.balance:,}: ask `society audit` about the copy")
 
@@ -317,8 +319,7 @@ def site(copy: pathlib.Path, into: pathlib.Path, folder: pathlib.Path | None) ->
     """
     with open_whole(copy) as opened, doing("reading") as tell:
         need_sound(noted(opened), sums=True)
-        known = looked_up(opened, folder)
-        count = write_site(opened, into, known.void if known else [], known.pools if known else {}, tell)
+        count = write_site(opened, into, looked_up(opened, folder), tell)
     say(f"{count:,} files in {into}; begin with {into / 'index.html'}")
 
 

@@ -4,7 +4,6 @@ import math
 import pathlib
 import re
 import sys
-import time
 from typing import Any, NoReturn
 
 import click
@@ -14,8 +13,8 @@ from society_office.book.copy import Copy
 from society_office.closings.orders import LAST_POOL
 from society_office.decided import decisions
 from society_office.decided.decisions import Decisions
-from society_office.formats.numbering import counted
 from society_office.formats.pool_names import PoolNames
+from society_office.printed.pages import aged
 
 
 class Number(click.FloatRange):
@@ -58,8 +57,6 @@ class Command(click.Command):
 WRONG = 1
 # How an amount is written, and how one that has cents.
 UNITS, CENTS = re.compile(r"-?[0-9]+|-?[0-9]{1,3}(,[0-9]{3})+", re.ASCII), re.compile(r"-?[0-9,]+\.[0-9]{2}", re.ASCII)
-# Seconds of an hour, hours of a day, and how many hours are told as such.
-HOUR, DAY, MANY_HOURS = 3_600, 24, 48
 NUMBER = Number(0, 1_000_000)
 PATH = click.Path(path_type=pathlib.Path)
 POOL = click.IntRange(1, LAST_POOL)
@@ -128,16 +125,19 @@ def looked_up(copy: Copy, named: pathlib.Path | None) -> Decisions | None:
     return decided(copy, named)
 
 
-def names_known(copy: Copy, named: pathlib.Path | None) -> PoolNames:
-    """The names and days of pools, for a command that tells nothing of what was decided beside them."""
+def known_of(copy: Copy, named: pathlib.Path | None) -> Decisions | None:
+    """What the office has decided, for a command that only tells of it; None without a folder, of which nothing is said."""
     folder = decisions.folder_of(named)
     tell_unread(copy, folder)
-    return decisions.read(folder).pools if folder else {}
+    return decisions.read(folder) if folder else None
+
+
+def names_known(copy: Copy, named: pathlib.Path | None) -> PoolNames:
+    """The names and days of pools, for a command that tells nothing of what was decided beside them."""
+    known = known_of(copy, named)
+    return known.pools if known else {}
 
 
 def age_told(copy: Copy) -> str:
     """How old a copy is, in words."""
-    hours = int((time.time() - copy.taken) // HOUR)
-    if hours < 1:
-        return f"{copy.path} is less than an hour old"
-    return f"{copy.path} is {counted(hours, 'hour') if hours < MANY_HOURS else counted(hours // DAY, 'day')} old"
+    return f"{copy.path} is {aged(copy.taken)} old"

@@ -11,7 +11,7 @@ from rich.console import Console
 
 from society_office.basics.plain_text import plain
 from society_office.basics.terminal import console, table
-from society_office.credits.explaining import Explained, Explanation, Part
+from society_office.credits.explaining import Explained, Explanation, Lacked, Part
 from society_office.formats.numbering import counted
 from society_office.formats.pool_names import POOL_COLUMNS, PoolNames, named, pool_text
 
@@ -49,19 +49,57 @@ def share_text(it: Explained, found: Explanation) -> str:
 
 
 def show(found: Explanation, names: PoolNames, out: Console) -> None:
-    """Prints it."""
+    """Prints it; of a make-up what was lacking by each pool that it makes up, and what it pays of that."""
     out.print(f"{found.account} {found.name}".rstrip())
-    out.print(f"{pool_text(names, found.pool)} of the {found.right}: {found.amount:,} units over {found.points:,} points")
-    for it in found.credits:
-        out.print()
-        out.print(owner_text(it), soft_wrap=True)
-        if it.played:
-            rows = [(play.reporter, str(play.number), play.plays, play.seconds, play.points) for play in it.played]
-            out.print(table(["station", "return", "plays", "seconds", "points"], rows, ["return", "plays", "seconds", "points"]))
-            out.print(f"the recording, {counted(it.part.weight, 'point')}: {reckoned(it.part)}", soft_wrap=True)
-        out.print(share_text(it, found), soft_wrap=True)
+    over = "" if found.lacked else f" over {found.points:,} points"
+    out.print(f"{pool_text(names, found.pool)} of the {found.right}: {found.amount:,} units{over}")
+    for words in found.notes:
+        out.print(words, soft_wrap=True)
+    if found.lacked:
+        show_make_up(found, names, out)
+    else:
+        for it in found.credits:
+            out.print()
+            show_credit(it, found, out)
     out.print()
     out.print(f"{found.units:,} units in all, which is what the statement has")
+
+
+def show_make_up(found: Explanation, names: PoolNames, out: Console) -> None:
+    """Prints what was lacking by each pool that a make-up makes up, and what it pays of that."""
+    for it in found.lacked:
+        out.print()
+        show_lacked(it, found, names, out)
+    out.print()
+    for isrc in dict.fromkeys(it.isrc for it in found.credits):
+        out.print(paid_text(found, isrc), soft_wrap=True)
+
+
+def show_credit(it: Explained, found: Explanation, out: Console) -> None:
+    """Prints how a credit comes about."""
+    out.print(owner_text(it), soft_wrap=True)
+    if it.played:
+        rows = [(play.reporter, str(play.number), play.plays, play.seconds, play.points) for play in it.played]
+        out.print(table(["station", "return", "plays", "seconds", "points"], rows, ["return", "plays", "seconds", "points"]))
+        out.print(f"the recording, {counted(it.part.weight, 'point')}: {reckoned(it.part)}", soft_wrap=True)
+    out.print(share_text(it, found), soft_wrap=True)
+
+
+def show_lacked(it: Lacked, found: Explanation, names: PoolNames, out: Console) -> None:
+    """Prints what was due of a recording by a pool that is made up."""
+    out.print(f"due by {pool_text(names, it.pool)}, {counted(it.amount, 'unit')} over {counted(it.points, 'point')}:", soft_wrap=True)
+    for one in it.due:
+        show_credit(one, found, out)
+    out.print(f"{counted(it.units, 'unit')} due, of which pool {it.pool} had credited {it.credited:,}", soft_wrap=True)
+
+
+def paid_text(found: Explanation, isrc: str) -> str:
+    """What was lacking of a recording, and what of it is paid."""
+    own = [it for it in found.lacked if it.isrc == isrc]
+    lacking = sum(it.units - it.credited for it in own) - found.made_up.get(isrc, 0)
+    before = f", without {found.made_up[isrc]:,} that make-ups had paid before" if found.made_up.get(isrc) else ""
+    units = sum(it.units for it in found.credits if it.isrc == isrc)
+    return f"{isrc}: {counted(lacking, 'unit')} lacking{before}; pool {found.pool} pays {units:,} of it"
 
 
 def as_text(found: Explanation, names: PoolNames) -> str:
@@ -123,7 +161,11 @@ def as_json(found: Explanation, names: PoolNames) -> str:
         "points": found.points,
         "units": found.units,
     }
-    return json.dumps({**head, "credits": credits}, ensure_ascii=False, indent=1) + "\n"
+    lacked = [
+        {"pool": it.pool, "amount": it.amount, "points": it.points, "isrc": it.isrc, "due": it.units, "credited": it.credited}
+        for it in found.lacked
+    ]
+    return json.dumps({**head, "notes": found.notes, "credits": credits, "lacked": lacked}, ensure_ascii=False, indent=1) + "\n"
 
 
 FORMS = {"table": as_text, "csv": as_csv, "json": as_json}

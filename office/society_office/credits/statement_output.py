@@ -2,7 +2,7 @@
 
 import pathlib
 import sys
-from collections.abc import Iterator
+from collections.abc import Iterator, Mapping, Sequence
 
 from rich.console import Console
 from rich.table import Table
@@ -22,6 +22,8 @@ MOST_LINES = 2_000
 CSV_NAME, PDF_NAME = "statement.csv", "statement.pdf"
 # Where lines are too many to be printed, so many of the greatest works and accounts are.
 MOST_SUMS = 100
+# By pool what is said of it beside its sums (closings/pool_ties.py).
+Notes = Mapping[int, Sequence[str]]
 # Statements that are named of those that an earlier run has left.
 MOST_NAMED = 5
 
@@ -77,6 +79,11 @@ def tables_of(found: Statement, names: PoolNames) -> Iterator[Table]:
         yield table(["account", "name", "units"], named, ["units"], f"By account{of_all(found, found.by_account)}")
 
 
+def notes_of(found: Statement, notes: Notes) -> list[str]:
+    """What is said of the pools that a statement has: what they correct or make up, what corrected them, and void returns."""
+    return [words for it in found.by_pool for words in notes.get(int(it.words[0]), ())]
+
+
 def shown(found: Statement, sums: list[Sum]) -> list[Sum]:
     """The sums that are printed."""
     return sums if found.is_held else sums[:MOST_SUMS]
@@ -88,7 +95,7 @@ def of_all(found: Statement, sums: list[Sum]) -> str:
     return f", the greatest {MOST_SUMS:,} of {len(sums):,}" if left else ""
 
 
-def show(found: Statement, names: PoolNames, out: Console) -> None:
+def show(found: Statement, names: PoolNames, notes: Notes, out: Console) -> None:
     """Prints it."""
     out.print(heading(found))
     if not found.is_held:
@@ -98,15 +105,18 @@ def show(found: Statement, names: PoolNames, out: Console) -> None:
         out.print(listed)
     if found.sums.count:
         out.print()
+    for words in notes_of(found, notes):
+        out.print(words, soft_wrap=True)
     out.print(verdict(found))
 
 
-def as_page(found: Statement, names: PoolNames, taken: float, beside: str = "") -> str:
+def as_page(found: Statement, names: PoolNames, notes: Notes, taken: float, beside: str = "") -> str:
     """It as a page, with no more than so many lines; `beside` is the name of the CSV file that stands beside it."""
     return pages.page(
         "statement.html",
         it=found,
         pool_names=names,
+        notes=notes_of(found, notes),
         lines=found.credits[:MOST_LINES],
         works=found.by_work[:MOST_LINES],
         accounts=found.by_account[:MOST_LINES],
@@ -117,16 +127,16 @@ def as_page(found: Statement, names: PoolNames, taken: float, beside: str = "") 
     )
 
 
-def write(found: Statement, names: PoolNames, form: str, output: pathlib.Path | None, taken: float) -> None:
+def write(found: Statement, names: PoolNames, notes: Notes, form: str, output: pathlib.Path | None, taken: float) -> None:
     """Writes it in a form, to a file or to standard output."""
     if form == "table" and output is None:
-        show(found, names, console())
+        show(found, names, notes, console())
     elif output is None:
-        sys.stdout.write(as_page(found, names, taken))
+        sys.stdout.write(as_page(found, names, notes, taken))
     elif form == "pdf":
-        pages.write_pdf(as_page(found, names, taken), output)
+        pages.write_pdf(as_page(found, names, notes, taken), output)
     else:
-        pages.write_text(output, as_page(found, names, taken) if form == "html" else as_table(found, names))
+        pages.write_text(output, as_page(found, names, notes, taken) if form == "html" else as_table(found, names, notes))
 
 
 def write_csv(statements: Statements, key: str, names: PoolNames, span: Span, output: pathlib.Path | None) -> Statement:
@@ -137,27 +147,21 @@ def write_csv(statements: Statements, key: str, names: PoolNames, span: Span, ou
         return statements.write_csv(key, span, file, names)
 
 
-def as_table(found: Statement, names: PoolNames) -> str:
+def as_table(found: Statement, names: PoolNames, notes: Notes) -> str:
     """It as the tables that are printed."""
     out = console()
     with out.capture() as captured:
-        show(found, names, out)
+        show(found, names, notes, out)
     return captured.get()
 
 
-def files_of(found: Statement, names: PoolNames, taken: float) -> Iterator[tuple[str, str]]:
-    """The files of its folder."""
-    folder = folder_of(found.key)
-    yield f"{folder}/index.html", as_page(found, names, taken, CSV_NAME)
-    yield f"{folder}/{CSV_NAME}", as_csv(found.credits, names)
-
-
-def write_one(found: Statement, names: PoolNames, taken: float, into: pathlib.Path, pdf: bool) -> None:
+def write_one(found: Statement, names: PoolNames, notes: Notes, taken: float, into: pathlib.Path, pdf: bool) -> None:
     """Writes the folder of one of all statements."""
-    pages.write_all(into, files_of(found, names, taken))
-    file = into / folder_of(found.key) / PDF_NAME
+    folder, page = folder_of(found.key), as_page(found, names, notes, taken, CSV_NAME)
+    pages.write_all(into, [(f"{folder}/index.html", page), (f"{folder}/{CSV_NAME}", as_csv(found.credits, names))])
+    file = into / folder / PDF_NAME
     if pdf:
-        pages.write_pdf(as_page(found, names, taken, CSV_NAME), file)
+        pages.write_pdf(page, file)
     else:
         # (one of an earlier run has other sums)
         file.unlink(missing_ok=True)
@@ -170,14 +174,14 @@ def tell_older(into: pathlib.Path, written: set[str]) -> None:
         say(f"{counted(len(left), 'statement')} of an earlier run left in {into}: {some}", error=True)
 
 
-def write_each(copy: Copy, names: PoolNames, span: Span, into: pathlib.Path, pdf: bool) -> int:
+def write_each(copy: Copy, names: PoolNames, notes: Notes, span: Span, into: pathlib.Path, pdf: bool) -> int:
     """Writes the statements of all accounts and publishers; the status is 1 where one differs from its balance."""
     statements = Statements(copy)
     accounts = names_of(parties(copy))
     differ, written = 0, set[str]()
     with pages.locked(into.resolve()), counting("statements", copy.row("SELECT count(*) FROM balances")[0]) as advance:
         for found in statements.all(span, accounts):
-            write_one(found, names, copy.taken, into, pdf)
+            write_one(found, names, notes, copy.taken, into, pdf)
             if not found.agrees:
                 differ += 1
                 say(f"{found.key}: {verdict(found)}", error=True)

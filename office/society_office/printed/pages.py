@@ -6,12 +6,15 @@ import fcntl
 import functools
 import os
 import pathlib
+import re
 import shutil
 import sys
+import time
 from collections.abc import Callable, Iterable, Iterator
 from typing import Any, TextIO
 
 import jinja2
+import markupsafe
 
 from society_office.basics.errors import OfficeError
 from society_office.book.book_log import DATABASE, MAGIC
@@ -20,6 +23,8 @@ from society_office.formats.numbering import as_sent, counted
 TEMPLATES = pathlib.Path(__file__).parent / "templates"
 # A unit in the last place of a percentage.
 TENTHS = 1_000
+# Seconds of an hour, hours of a day, and how many hours are told as such.
+HOUR, DAY, MANY_HOURS = 3_600, 24, 48
 
 
 def units(number: int) -> str:
@@ -33,9 +38,26 @@ def percent(part: int, whole: int) -> str:
     return f"{tenths // 10}.{tenths % 10} %"
 
 
+def aged(seconds: float) -> str:
+    """How old a copy of a time was when its pages are made, in words."""
+    hours = int((time.time() - seconds) // HOUR)
+    if hours < 1:
+        return "less than an hour"
+    return counted(hours, "hour") if hours < MANY_HOURS else counted(hours // DAY, "day")
+
+
 def moment(seconds: float) -> str:
     """A time of a file as people write it, with its zone."""
     return datetime.datetime.fromtimestamp(seconds).astimezone().strftime("%Y-%m-%d %H:%M %Z")
+
+
+def with_links(words: str, top: str) -> markupsafe.Markup:
+    """Words in which each number behind `pool` or `pools` leads to the page of that pool."""
+
+    def linked(found: re.Match[str]) -> str:
+        return re.sub("[0-9]+", lambda it: f'<a href="{top}pools/{it[0]}.html">{it[0]}</a>', found[0])
+
+    return markupsafe.Markup(re.sub("[Pp]ools? [0-9]+(, [0-9]+)*( and [0-9]+)?", linked, str(markupsafe.escape(words))))
 
 
 def begun(words: str) -> str:
@@ -53,7 +75,7 @@ def environment() -> jinja2.Environment:
         trim_blocks=True,
         lstrip_blocks=True,
     )
-    found.filters.update(begun=begun, units=units, moment=moment, as_sent=as_sent)
+    found.filters.update(begun=begun, units=units, moment=moment, as_sent=as_sent, with_links=with_links, aged=aged)
     found.globals.update(counted=counted, percent=percent, style=style)
     return found
 

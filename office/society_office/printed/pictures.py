@@ -8,8 +8,14 @@ import markupsafe
 from society_office.formats.numbering import Line, as_sent, number_in, rank_in, segment_of
 
 # What each part of a pool and each state of a file is, and its colour; the colours differ in lightness too, for print in grey.
-PARTS = {"paid": "#2f6f4f", "share": "#d9b13b", "conflict": "#b3541e", "nobody": "#c3c9d4"}
-PART_WORDS = {"paid": "paid", "share": "share that nobody collects", "conflict": "claimed by several", "nobody": "no owner at the cut"}
+PARTS = {"paid": "#2f6f4f", "settled": "#7fb69a", "share": "#d9b13b", "conflict": "#b3541e", "nobody": "#c3c9d4"}
+PART_WORDS = {
+    "paid": "paid",
+    "settled": "paid since, by a make-up",
+    "share": "share that nobody collects",
+    "conflict": "claimed by several",
+    "nobody": "no owner at the cut",
+}
 STATES = {"applied": "#2f6f4f", "waits": "#d9b13b", "missing": "#b3541e", "skipped": "#c3c9d4"}
 STATE_WORDS = {"applied": "applied", "waits": "waits", "missing": "missing", "skipped": "never applied"}
 WIDTH, HEIGHT, GAP = 1_000, 10, 6

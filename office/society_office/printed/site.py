@@ -1,5 +1,6 @@
 """Pages of a whole office, made of a copy: senders, rejected works, pools, stations, returns and balances."""
 
+import collections
 import csv
 import dataclasses
 import heapq
@@ -15,15 +16,17 @@ from society_office.book.copy import Copy
 from society_office.book.own_returns import is_own
 from society_office.checks import faults
 from society_office.checks.why import Rejected, state_lines, story
+from society_office.closings.pool_ties import ties_of
 from society_office.credits.parties import names_of, parties
 from society_office.credits.statements import folder_of
 from society_office.credits.unclaimed import BOOKING, CURES, Cause, Found, Item, Unclaimed
+from society_office.decided.decisions import Decisions
 from society_office.formats.numbering import Line, as_sent, ranges, segment_text
 from society_office.formats.plays import points
 from society_office.formats.pool_names import PoolNames
 from society_office.formats.return_names import Entry, are_listed
 from society_office.printed import pages, pictures
-from society_office.printed.work_pages import WorkPages
+from society_office.printed.work_pages import WorkPages, page_of
 from society_office.works.records import UNCLAIMED, sender_names
 
 # What a page shows at most: unclaimed recordings of a pool, accounts of a pool, rejected works of a group, rows of a page of balances.
@@ -62,16 +65,20 @@ class PoolPage:
 
     @property
     def unclaimed(self) -> int:
-        """What went to nobody."""
-        return self.amount - self.parts["paid"]
+        """What went to nobody, and was not paid since."""
+        return self.amount - self.parts["paid"] - self.parts["settled"]
 
     @property
     def ordered_causes(self) -> list[tuple[Cause, int]]:
         """The causes that its unclaimed units have, in the order of the causes."""
         return [(it, self.causes[it]) for it in Cause if it in self.causes]
 
-    def note(self, it: Found) -> None:
-        """Adds what went to nobody for a recording; the largest of them are kept."""
+    def note(self, found: Found, settled: int) -> None:
+        """Adds what went to nobody for a recording, and what of that was paid since; the largest of what is left are kept."""
+        it = found._replace(units=found.units - settled)
+        self.parts["settled"] += settled
+        if not it.units:
+            return
         part = PART_OF.get(it.cause, "nobody")
         self.parts[part] += it.units
         self.causes[it.cause] = self.causes.get(it.cause, 0) + it.units
@@ -108,10 +115,13 @@ class Station:
 class Site:
     """What the pages show, read out of one copy."""
 
-    def __init__(self, copy: Copy, void: Sequence[Entry], pool_names: PoolNames, progress: Callable[[str], None]) -> None:
-        """Reads what several pages need; `progress` is told what is done."""
+    def __init__(self, copy: Copy, known: Decisions | None, progress: Callable[[str], None]) -> None:
+        """Reads what several pages need; `known` is what was decided, where that is known, and `progress` is told what is done."""
         copy.need_derived()
-        self.copy, self.void, self.pool_names, self.progress = copy, void, pool_names, progress
+        self.copy, self.progress = copy, progress
+        self.void: Sequence[Entry] = known.void if known else []
+        self.pool_names: PoolNames = known.pools if known else {}
+        self.ties = ties_of(copy, known)
         progress("names")
         self.names = names_of(parties(copy))
         self.senders = sender_names(copy)
@@ -128,11 +138,11 @@ class Site:
         nobodys = dict(self.copy.rows("SELECT pool, sum(units) FROM credits WHERE account = ? GROUP BY pool", UNCLAIMED))
         found = {}
         for pool, amount in amounts.items():
-            parts = {"paid": amount - nobodys.get(pool, 0), "share": 0, "conflict": 0, "nobody": 0}
+            parts = {"paid": amount - nobodys.get(pool, 0), "settled": 0, "share": 0, "conflict": 0, "nobody": 0}
             found[pool] = PoolPage(pool, rights[pool], amount, sorted(cuts[pool].items()), returns[pool], parts)
-        self.unclaimed = Unclaimed(self.copy)
+        self.unclaimed, settled = Unclaimed(self.copy), self.ties.settled()
         for it in self.unclaimed.each():
-            found[it.pool].note(it)
+            found[it.pool].note(it, settled.get((it.pool, it.isrc), 0))
         return list(found.values())
 
     def items(self) -> dict[int, list[Item]]:
@@ -142,6 +152,12 @@ class Site:
         for it in listed:
             found[it.pool].append(it)
         return found
+
+    def own_returns(self) -> list[tuple[str, int, int | None]]:
+        """The returns that the office itself has written, each with the pool that has paid it."""
+        joined = "returns LEFT JOIN pool_returns USING (reporter, number)"
+        question = f"SELECT reporter, number, pool FROM {joined} ORDER BY pool, reporter, number"
+        return [it for it in self.copy.rows(question) if is_own(it[0])]
 
     def stations(self) -> list[Station]:
         """Each station with its returns; those of the office itself are of none."""
@@ -153,6 +169,8 @@ class Site:
             listed = points(bytes(body))
             is_void = are_listed(self.void, (reporter, number))
             state = f"paid by pool {paid[reporter, number]}" if (reporter, number) in paid else "void" if is_void else "unpaid"
+            if is_void and state != "void":
+                state += ", and void since"
             found.setdefault(reporter, Station(reporter)).returns.append((number, len(listed), sum(listed.values()), state))
         return list(found.values())
 
@@ -169,7 +187,7 @@ class Site:
     def page(self, template: str, own: str, **values: Any) -> str:
         """A page with what all have."""
         depth = "../" * own.count("/")
-        values |= {"office": self.copy.name, "taken": self.copy.taken, "menu": MENU, "own": own, "top": depth}
+        values |= {"office": self.copy.name, "taken": self.copy.taken, "menu": MENU, "own": own, "top": depth, "ties": self.ties}
         return pages.page(template, name=self.name, pool_names=self.pool_names, **values)
 
     def files(self) -> Iterator[tuple[str, str]]:
@@ -189,6 +207,7 @@ class Site:
                 legend=pictures.legend(pictures.STATES, pictures.STATE_WORDS),
                 most=MOST_REJECTED,
                 words=faults.words,
+                page_of=page_of,
             )
         self.progress("senders")
         yield from self.overview_files(rejected)
@@ -209,29 +228,31 @@ class Site:
 
     def overview_files(self, rejected: Sequence[tuple[str, Rejected]]) -> Iterator[tuple[str, str]]:
         """The overview and the senders."""
-        strips = [(it, pictures.strip(it), len([1 for sender, _ in rejected if sender == it.sender])) for it in self.lines]
+        counts = collections.Counter((sender, it.is_cured) for sender, it in rejected)
+        strips = [(it, pictures.strip(it), counts[it.sender, False], counts[it.sender, True]) for it in self.lines]
         legend = pictures.legend(pictures.STATES, pictures.STATE_WORDS)
         yield "senders.html", self.page("senders.html", "senders.html", senders=strips, legend=legend, ranges=ranges_of)
-        open_ones = sum(it.since == "not registered since" for _, it in rejected)
         values = {
             "pools": self.pools,
             "lines": self.lines,
             "rejected": len(rejected),
-            "open_ones": open_ones,
+            "settled": sum(it.parts["settled"] for it in self.pools),
+            "open_ones": sum(not it.is_cured for _, it in rejected),
             "bars": [(it, pictures.bar(it.parts)) for it in self.pools[-6:]],
             "legend": pictures.legend(pictures.PARTS, pictures.PART_WORDS),
         }
         yield "index.html", self.page("overview.html", "index.html", **values)
 
     def rejected_files(self, rejected: Sequence[tuple[str, Rejected]]) -> Iterator[tuple[str, str]]:
-        """Rejected works, grouped by fault and sender."""
+        """Rejected works that were not registered since, grouped by fault and sender, and those that were."""
         groups: dict[tuple[int, str], list[Rejected]] = {}
+        cured = [(sender, it) for sender, it in rejected if it.is_cured]
         for sender, it in rejected:
-            groups.setdefault((it.fault, sender), []).append(it)
+            if not it.is_cured:
+                groups.setdefault((it.fault, sender), []).append(it)
         ordered = sorted(groups.items(), key=lambda it: (-len(it[1]), it[0]))
-        yield "rejected.html", self.page(
-            "rejected.html", "rejected.html", groups=ordered, most=MOST_REJECTED, means=faults.means, cure=faults.cure
-        )
+        values = {"groups": ordered, "cured": cured, "most": MOST_REJECTED, "means": faults.means, "cure": faults.cure, "page_of": page_of}
+        yield "rejected.html", self.page("rejected.html", "rejected.html", **values)
         rows = ((sender, as_sent(it.number), it.place, plain(it.work), plain(it.title), it.fault, it.since) for sender, it in rejected)
         yield "rejected.csv", as_csv(["sender", "file", "place", "work", "title", "fault", "since"], rows)
 
@@ -264,7 +285,8 @@ class Site:
         found = sorted(self.stations(), key=lambda it: -it.points)
         most = max((it.points for it in found), default=0)
         bars = [(it, pictures.single_bar(it.points, most, f"{it.points:,} points")) for it in found]
-        yield "stations.html", self.page("stations.html", "stations.html", stations=bars, void=len(self.void))
+        values = {"stations": bars, "void": len(self.void), "own_returns": self.own_returns(), "pools": {it.pool: it for it in self.pools}}
+        yield "stations.html", self.page("stations.html", "stations.html", **values)
 
     def balance_files(self) -> Iterator[tuple[str, str]]:
         """The balances, in pages of so many, and all of them as CSV."""
@@ -294,7 +316,7 @@ def as_csv(header: list[str], rows: Iterable[Sequence[object]]) -> str:
     return out.getvalue()
 
 
-def write_site(copy: Copy, into: pathlib.Path, void: Sequence[Entry], pool_names: PoolNames, progress: Callable[[str], None]) -> int:
+def write_site(copy: Copy, into: pathlib.Path, known: Decisions | None, progress: Callable[[str], None]) -> int:
     """Writes all pages into a folder, in the place of all that were there; answers how many files it wrote."""
     with pages.locked(into.resolve()), pages.new_folder(into, lambda name: PAGE.fullmatch(name) is not None) as folder:
-        return pages.write_new(folder, Site(copy, void, pool_names, progress).files())
+        return pages.write_new(folder, Site(copy, known, progress).files())

@@ -102,8 +102,8 @@ def test_the_pages_of_pools(copy: pathlib.Path, tmp_path: pathlib.Path) -> None:
         for cause, units in nobodys[pool.pool].values():
             causes[cause] += units
         paid = pool.amount - sum(causes.values())
-        wanted = (pool.amount, paid, causes["share"], causes["conflict"], causes["none"] + causes["plays"])
-        assert it[1:7] == [pool.right, *(f"{units:,}" for units in wanted)]
+        wanted = (pool.amount, paid, 0, causes["share"], causes["conflict"], causes["none"] + causes["plays"])
+        assert it[2:9] == [pool.right, *(f"{units:,}" for units in wanted)]
         page = (tmp_path / f"site/pools/{pool.pool}.html").read_text()
         credited = Counter[str]()
         for _, account, units in reckoning.credits(quarter.OFFICE, pool.pool):

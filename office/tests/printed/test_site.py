@@ -21,9 +21,9 @@ CAUSES = {"none": "nobody", "plays": "nobody", "share": "share", "conflict": "co
 
 def test_the_parts_of_a_pool(copy: pathlib.Path) -> None:
     with open_copy(copy) as opened:
-        pools = {it.pool: it for it in Site(opened, [], {}, lambda _: None).pools}
+        pools = {it.pool: it for it in Site(opened, None, lambda _: None).pools}
     for pool, right, amount, _, _ in quarter.POOLS:
-        wanted = {"paid": amount, "share": 0, "conflict": 0, "nobody": 0}
+        wanted = {"paid": amount, "settled": 0, "share": 0, "conflict": 0, "nobody": 0}
         for cause, units in reckoning.unclaimed(quarter.OFFICE, pool).values():
             wanted[CAUSES[cause]] += units
             wanted["paid"] -= units
@@ -60,7 +60,10 @@ def test_the_pages(copy: pathlib.Path, tmp_path: pathlib.Path, decided: pathlib.
         for head in re.findall(r"<th\b[^>]*>", page):
             assert "scope=" in head, (name, head)
     assert "DELTA &amp; SONS" in pages["senders.html"] and "never applied: 25-0001" in pages["senders.html"]
-    assert "registered since: revision 0 with file 3" in pages["rejected.html"] and ">void<" in pages["stations.html"]
+    rejected, _, cured = pages["rejected.html"].partition("<h2>Registered since")
+    assert "registered since: revision 0 with file 3" in cured and "TOO MUCH" not in rejected and "THREE FAULTS" in rejected
+    assert "TOO MUCH" not in pages[f"senders/{quarter.ALPHA}.html"].partition("<h2>Rejected works")[2]
+    assert "registered since" in cured and ">void<" in pages["stations.html"]
     assert f"{sum(it.amount for it in quarter.POOLS):,}" in pages["balances.html"]
     balances = dict(it.rsplit(",", 1) for it in (folder / "balances.csv").read_text().splitlines()[1:])
     assert {it.split(",")[0]: int(units) for it, units in balances.items()} == reckoning.balances(quarter.OFFICE)

@@ -10,6 +10,8 @@ import quarter
 import works_by_hand
 from command import run
 from conftest import made
+from desk import ANNA, HOUSE, NAMES, OTHER, file, holder, work
+from office_value import Office, Pool, Return
 from society_office.book.copy import open_copy
 from society_office.printed import work_pages, work_pieces
 from society_office.printed.site import Site
@@ -93,7 +95,7 @@ def test_pieces_find_what_a_search_by_hand_finds(
     monkeypatch.setattr(work_pieces, "LONGEST_PIECE", size)
     monkeypatch.setattr(work_pieces, "TITLES", 3)
     with open_copy(made(program, office, folder)) as copy:
-        files = dict(Site(copy, [], {}, lambda _: None).files())
+        files = dict(Site(copy, None, lambda _: None).files())
     reader = Reader({name: text for name, text in files.items() if name.startswith("find/")})
     assert (size > 1 or len(reader.begin["wide"]) > 9) and reader.begin["works"] == len(works_by_hand.found(office, []))
     for words in [[], *([it] for it in HOSTILE), *(question(rng, office) for _ in range(60))]:
@@ -131,7 +133,8 @@ def test_the_page_of_a_work(copy: pathlib.Path, tmp_path: pathlib.Path) -> None:
     for it in ("FIRST SONG (LIVE)", "ATABC2600001, ATABC2600004", "revision 1: accepted", "ANNA WRITER", "231,428", "2,248,860"):
         assert it in page
     assert "registration: rejected, fault 20: an NWR of a work that is registered; revision 1 of file 2 stands" in page
-    assert "Cure: send a REV." in page
+    assert "Cure: send a REV." in page and page.count("what stands above") == 1
+    assert "revision 1: accepted</span></td><td data-label=\"Says\"><span>what stands above" in page
     assert "FIRST SONG, T0345246801<br>ATABC2600001<br>I00000000199 ALPHA MUSIC, publisher: 50 % of the PR" in page
     late = (pages / "A4.html").read_text()
     assert "registered since: revision 0 with file 3" in late and "Not registered" not in late
@@ -148,11 +151,19 @@ def test_the_page_finds_by_the_same_letters() -> None:
     assert f'const DIGITS = "{DIGITS}"' in script and f'const COMMON = "{work_pieces.COMMON}"' in script
 
 
-@pytest.mark.parametrize("number", range(6, 9))
-def test_each_work_is_what_a_search_tells_of_it(program: str, folder: pathlib.Path, number: int) -> None:
-    office = with_texts(number)
-    path = made(program, office, folder)
+def check_each(path: pathlib.Path) -> int:
+    """Each work is what a search tells of it; how many pools have credited works."""
     listed = json.loads(run("works", path, "--most", 1_000, "--format", "json"))["works"]
     with open_copy(path) as copy:
         found = [work_search_output.work_told(it) for it, _ in every_work.every_work(copy)]
     assert sorted(found, key=lambda it: (it["sender"], it["work"])) == sorted(listed, key=lambda it: (it["sender"], it["work"]))
+    return sum(len(it["credited"]) for it in found)
+
+
+def test_each_work_is_what_a_search_tells_of_it(copy: pathlib.Path, program: str, folder: pathlib.Path) -> None:
+    assert check_each(copy) > 9
+    # (two works of one number, of two senders)
+    shares, returns = holder(ANNA, 5_000), [Return("RADIO1", 1, [("ATABC2600001", 1, 60), ("ATABC2600002", 3, 60)])]
+    files = [file(HOUSE, 1, work("W1", "ATABC2600001", shares)), file(OTHER, 1, work("W1", "ATABC2600002", shares))]
+    steps = [*returns, *files, Pool(1, "PR", 1_000, {HOUSE: 1, OTHER: 1}, [("RADIO1", 1)])]
+    assert check_each(made(program, Office(NAMES, steps), folder)) == 2
