@@ -30,7 +30,7 @@ AT_ONCE = (
     (("office/bench",), TESTS),
     ((".ci", "harness", "tools", "trials", "bench"), ["harness", "trials", "bench", *TESTS]),
 )
-FOLDERS = (".ci", "bin", "examples", "harness", "tools", "trials")
+FOLDERS = (".ci", "bench", "bin", "examples", "harness", "tools", "trials")
 
 
 def sources(folder: str) -> Iterator[str]:

@@ -14,7 +14,8 @@ import hashlib
 import pathlib
 import random
 import socket
-import subprocess
+from collections.abc import Callable, Iterable, Iterator
+
 import sys
 import tempfile
 import threading
@@ -23,7 +24,7 @@ import common
 import bodies
 import measured
 from measured import Server
-from served import OFFICE
+import served
 from society_office.book import book_log, page_sums
 
 SENDERS, FILES, WORKS, POOLS = 5, 16, 50, 5
@@ -31,11 +32,11 @@ HEADER_BITS = 100 * 8
 DAMAGED, OTHERWISE, SAME, CHANGED = "refused as damaged", "refused otherwise", "every answer as it was", "AN ANSWER CHANGED"
 
 
-def sender(k):
+def sender(k: int) -> str:
     return f"PB{k + 12:09d}"
 
 
-def all_puts():
+def all_puts() -> Iterator[tuple[str, bytes]]:
     """What fills the office: files of several senders, returns, and pools over the whole lines."""
     for k in range(SENDERS):
         for n in range(FILES):
@@ -45,7 +46,7 @@ def all_puts():
         yield f"/v1/pools/{n}", bodies.order_body(1_000_000, [[sender(k), FILES] for k in range(SENDERS)], [["RADIO1", n]])
 
 
-def requests():
+def requests() -> bytes:
     """Every question that the office can be asked, and every put again, which a right file knows."""
     paths = []
     for k in range(SENDERS):
@@ -57,37 +58,37 @@ def requests():
     return bodies.get(*paths) + b"".join(bodies.request("PUT", where, body) for where, body in all_puts())
 
 
-def answers(server, stream):
+def answers(server: Server, stream: bytes) -> str:
     """What is written to all requests on one connection, in short."""
-    with socket.create_connection(("127.0.0.1", server.port)) as it:
+    with served.connected(server.port) as it:
 
-        def send():
+        def send() -> None:
             with contextlib.suppress(OSError):
                 it.sendall(stream)
                 it.shutdown(socket.SHUT_WR)
 
         sending = threading.Thread(target=send)
         sending.start()
-        found = b"".join(iter(lambda: it.recv(1 << 16), b""))
+        found = served.read_all(it)
         sending.join()
     return hashlib.sha256(found).hexdigest()
 
 
-def asked(program, path, stream):
+def asked(program: str, path: pathlib.Path, stream: bytes) -> str:
     """What the office of a file answers, which is gone then."""
     with Server(program, path) as server:
         return answers(server, stream)
 
 
-def outcome(program, path, stream, right):
+def outcome(program: str, path: pathlib.Path, stream: bytes, right: str) -> str:
     """What becomes of a file."""
-    run = subprocess.run([program, "audit", "--db", path, *OFFICE], capture_output=True, text=True, check=False)
-    if run.returncode:
-        return DAMAGED if run.stderr == "society: database damaged\n" else f"{OTHERWISE} ({run.stderr.strip()})"
+    ended = served.audit(program, path)
+    if ended.status:
+        return DAMAGED if ended.err == b"society: database damaged\n" else f"{OTHERWISE} ({ended.err.decode().strip()})"
     return SAME if asked(program, path, stream) == right else CHANGED
 
 
-def made(program, folder):
+def made(program: str, folder: pathlib.Path) -> tuple[pathlib.Path, pathlib.Path]:
     """The file of the office with sums, and the one without."""
     office, one, summed, plain = (folder / f"{it}.db" for it in ("office", "one", "with sums", "without sums"))
     measured.filled(program, office, all_puts())
@@ -97,19 +98,21 @@ def made(program, folder):
     return summed, plain
 
 
-def changed(content, place):
+def changed(content: bytes, place: int) -> bytearray:
     """Bytes of which a bit is another one."""
     found = bytearray(content)
     found[place // 8] ^= 1 << place % 8
     return found
 
 
-def tried(program, source, stream, name, places, folder):
+def tried(
+    program: str, source: pathlib.Path, stream: bytes, name: str, places: Callable[[int], Iterable[int]], folder: pathlib.Path
+) -> bool:
     """Prints what became of each change; whether all were refused as damaged, or left every answer as it was."""
     content, path = source.read_bytes(), folder / "changed.db"
     path.write_bytes(content)
     right = asked(program, path, stream)
-    counts, is_right = collections.Counter(), True
+    counts, is_right = collections.Counter[str](), True
     for place in places(len(content) * 8):
         for it in folder.glob("changed.db*"):
             it.unlink()
@@ -119,26 +122,28 @@ def tried(program, source, stream, name, places, folder):
         is_right &= found in (DAMAGED, SAME) or found.startswith(OTHERWISE) and place < 8
         if found == CHANGED:
             print(f"  {source.stem}: byte {place // 8:,}, bit {place % 8}: {found}", flush=True)
-    print(f"{source.stem}, {name}, {len(content) / 1_000_000:.1f} MB: {', '.join(f'{n} {it}' for it, n in counts.most_common())}", flush=True)
+    print(
+        f"{source.stem}, {name}, {len(content) / 1_000_000:.1f} MB: {', '.join(f'{n} {it}' for it, n in counts.most_common())}", flush=True
+    )
     return is_right
 
 
-def main():
+def main() -> None:
     options = common.parser(__doc__)
     options.add_argument("--changes", type=int, default=200, help="changed bits of each file (default: 200)")
     options.add_argument("--seed", type=int, default=1, help="what the places come of (default: 1)")
-    options = options.parse_args()
+    given = options.parse_args()
     stream = requests()
 
-    def by_chance(bits):
-        return random.Random(options.seed).sample(range(bits), options.changes)
+    def by_chance(bits: int) -> list[int]:
+        return random.Random(given.seed).sample(range(bits), given.changes)
 
     with tempfile.TemporaryDirectory() as name:
         folder = pathlib.Path(name)
-        summed, plain = made(options.program, folder)
-        right = tried(options.program, summed, stream, "bits by chance", by_chance, folder)
-        right &= tried(options.program, summed, stream, "bits of the header", lambda _: range(HEADER_BITS), folder)
-        tried(options.program, plain, stream, "bits by chance", by_chance, folder)
+        summed, plain = made(given.program, folder)
+        right = tried(given.program, summed, stream, "bits by chance", by_chance, folder)
+        right &= tried(given.program, summed, stream, "bits of the header", lambda _: range(HEADER_BITS), folder)
+        tried(given.program, plain, stream, "bits by chance", by_chance, folder)
     sys.exit(not right)
 
 

@@ -18,22 +18,20 @@ import sys
 import tempfile
 import threading
 import time
+from typing import NoReturn
 
 import common
 import served
 from bodies import SENDER, order_body, plays, works_file
 from measured import Server
-from served import ROOT
+import odd_office
+from society_office.book import book_log
+from society_office.closings.closing import state_of, unfinished
+from society_office.commands.cli import main as society_office
+from society_office.decided import decisions
+from society_office.offices import book_files
 
-sys.path[:0] = [str(ROOT / "office"), str(ROOT / "office/tests")]
-import odd_office  # noqa: E402 (the folders of the checkout come first)
-from society_office.book import book_log  # noqa: E402
-from society_office.closings.closing import state_of, unfinished  # noqa: E402
-from society_office.commands.cli import main as society_office  # noqa: E402
-from society_office.decided import decisions  # noqa: E402
-from society_office.offices import book_files  # noqa: E402
-
-WRONG = []
+WRONG: list[str] = []
 MODES = [f"{mode}{after}" for mode in odd_office.MODES for after in ("", " after")] + ["forgets"]
 # So many calls that may be killed or oddly answered stand before the last one of a round.
 MOST_CALLS = 3
@@ -43,7 +41,7 @@ OWN = 4
 ABOUT = 0.05
 
 
-def check(what, found, wanted=True):
+def check(what: str, found: object, wanted: object = True) -> None:
     if found != wanted:
         WRONG.append(what)
         print(f"{what}: WRONG, {found!r} and not {wanted!r}", flush=True)
@@ -54,7 +52,7 @@ class Way(odd_office.Odd):
 
     file = pathlib.Path()
 
-    def do_PUT(self):
+    def do_PUT(self) -> None:
         kind = type(self)
         told = json.loads(kind.file.read_text())
         kind.mode, kind.left = told["mode"], 1_000
@@ -65,7 +63,7 @@ class Way(odd_office.Odd):
         with contextlib.suppress(OSError):
             super().do_PUT()
 
-    def do_GET(self):
+    def do_GET(self) -> None:
         type(self).mode = json.loads(type(self).file.read_text())["mode"]
         with contextlib.suppress(OSError):
             super().do_GET()
@@ -74,11 +72,11 @@ class Way(odd_office.Odd):
 class Proxy(http.server.ThreadingHTTPServer):
     """Serves the way, whoever breaks off."""
 
-    def handle_error(self, *_):
+    def handle_error(self, *_: object) -> None:
         pass
 
 
-def killed(process):
+def killed(process: int) -> None:
     """Kills a process, if it is still there."""
     with contextlib.suppress(ProcessLookupError):
         os.kill(process, signal.SIGKILL)
@@ -87,7 +85,7 @@ def killed(process):
 class Trial:
     """An office, the way to it, and a folder of decisions, in a folder of its own."""
 
-    def __init__(self, program, folder, chance):
+    def __init__(self, program: str, folder: pathlib.Path, chance: random.Random) -> None:
         self.program, self.folder, self.chance = program, folder, chance
         self.control, self.decided, self.typical = folder / "control", folder / "decided", 1.0
         self.database, self.copy, self.order = folder / "office.db", folder / "copy.db", folder / "order.json"
@@ -97,9 +95,9 @@ class Trial:
         self.way, self.port = self.begin_way()
         self.put(f"/v1/senders/{SENDER}/transmissions/1", works_file(1, 3))
         # Pools that pay plays, and those of the office itself; and how calls have ended.
-        self.closed, self.outcomes = [0, 0], {}
+        self.closed, self.outcomes = [0, 0], dict[tuple[str, str], int]()
 
-    def begin_way(self):
+    def begin_way(self) -> tuple[int, int]:
         """Starts the process of the way; its id and its port."""
         port = served.free_port()
         child = os.fork()
@@ -108,25 +106,25 @@ class Trial:
             Proxy(("127.0.0.1", port), Way).serve_forever()
         return child, port
 
-    def tell(self, mode, kill=0, before=0.0, after=0.0):
+    def tell(self, mode: str, kill: int = 0, before: float = 0.0, after: float = 0.0) -> None:
         """How the way answers from now on."""
         made = self.control.with_suffix(".new")
         made.write_text(json.dumps({"mode": mode, "kill": kill, "before": before, "after": after}))
         made.rename(self.control)
 
-    def put(self, path, body):
+    def put(self, path: str, body: bytes) -> None:
         with contextlib.closing(self.server.connection()) as it:
             status, text = served.ask(it, "PUT", path, body)
         assert status == 201, (path, status, text)
 
-    def get(self, path):
+    def get(self, path: str) -> tuple[int, bytes]:
         with contextlib.closing(self.server.connection()) as it:
             return served.ask(it, "GET", path)
 
-    def write_order(self, number, paid):
+    def write_order(self, number: int, paid: list[str | int]) -> None:
         self.order.write_bytes(order_body(1_000 + number, [[SENDER, 1]], [paid]))
 
-    def begin(self, mode, about):
+    def begin(self, mode: str, about: bool) -> int:
         """Starts a call, in a process group of its own; its id. One that is to be killed about the put waits until the way knows it."""
         ready, go = os.pipe()
         child = os.fork()
@@ -140,7 +138,7 @@ class Trial:
         os.close(go)
         return child
 
-    def run(self):
+    def run(self) -> NoReturn:
         """The call itself, in its own process; it does not return."""
         out = os.open(self.folder / "printed", os.O_WRONLY | os.O_CREAT | os.O_TRUNC)
         for it in (1, 2):
@@ -149,18 +147,18 @@ class Trial:
         amount = json.loads(self.order.read_bytes())["amount"]
         words = ["close", self.order, "--copy", self.copy, "--office", f"http://127.0.0.1:{self.port}", "--program", self.program]
         words += ["--wait", "0", "--decisions", self.decided, "--amount", amount, "--why", "asked by the board"]
-        status = 99
+        status: int | str = 99
         try:
             sys.stdout, sys.stderr = open(1, "w", closefd=False), open(2, "w", closefd=False)
             society_office([str(it) for it in words], prog_name="society-office")
         except SystemExit as ended:
             status = ended.code or 0
         finally:
-            for it in (sys.stdout, sys.stderr):
-                it.flush()
-            os._exit(status)
+            for stream in (sys.stdout, sys.stderr):
+                stream.flush()
+            os._exit(status if isinstance(status, int) else 1)
 
-    def call(self, mode="", moment=None, about=False):
+    def call(self, mode: str = "", moment: float | None = None, about: bool = False) -> tuple[int, str]:
         """One call; its status, negative where it was killed, and what it printed. It leaves no throw-away office."""
         begun = time.monotonic()
         child = self.begin(mode, about)
@@ -177,7 +175,7 @@ class Trial:
         self.end_group(child, status)
         return status, (self.folder / "printed").read_text() if status >= 0 else ""
 
-    def end_group(self, child, status):
+    def end_group(self, child: int, status: int) -> None:
         """Whatever a call has started ends with it."""
         for _ in range(100):
             left = [it for it in pathlib.Path("/proc").glob("[0-9]*/stat") if group_of(it) == child]
@@ -188,13 +186,13 @@ class Trial:
         with contextlib.suppress(ProcessLookupError):
             os.killpg(child, signal.SIGKILL)
 
-    def close(self):
+    def close(self) -> None:
         killed(self.way)
         os.waitpid(self.way, 0)
         self.server.kill()
 
 
-def group_of(stat):
+def group_of(stat: pathlib.Path) -> int:
     """The process group of a process; 0 where it is gone, or only waited for."""
     with contextlib.suppress(OSError):
         state, _, group = stat.read_text().rpartition(")")[2].split()[:3]
@@ -202,7 +200,7 @@ def group_of(stat):
     return 0
 
 
-def tried(trial, number):
+def tried(trial: Trial, number: int) -> bool:
     """The calls of a round before the last one; whether one was killed."""
     is_killed = False
     for call in range(trial.chance.randint(1, MOST_CALLS)):
@@ -218,21 +216,21 @@ def tried(trial, number):
     return is_killed
 
 
-def plain(what, status, said):
+def plain(what: str, status: int, said: str) -> None:
     """A call that was not killed ends with a plain line."""
     last = said.splitlines()[-1] if said else ""
     is_plain = last.startswith("closed pool") if status == 0 else last != ""
     check(f"{what}: {last}", status in (0, 1) and "Traceback" not in said and is_plain)
 
 
-def play_order(trial, number):
+def play_order(trial: Trial, number: int) -> int:
     """A return of a station that came; the number of the pool that pays it."""
     trial.put(f"/v1/returns/RADIO1/{number}", plays(number, 3, 1))
     trial.write_order(number, ["RADIO1", number])
     return trial.closed[0] + 1
 
 
-def own_order(trial, number):
+def own_order(trial: Trial, number: int) -> int:
     """An order of the office itself, whose return stands beside it and is sent with it; its number goes down."""
     pool = 99_999 - trial.closed[1]
     (trial.folder / f"AMEND1-{pool}.csv").write_bytes(plays(number, 3, 1))
@@ -240,7 +238,7 @@ def own_order(trial, number):
     return pool
 
 
-def round_of(trial, number):
+def round_of(trial: Trial, number: int) -> bool:
     """One order, closed at last; whether a call was killed."""
     is_own = number % OWN == 0
     pool = (own_order if is_own else play_order)(trial, number)
@@ -262,16 +260,16 @@ def round_of(trial, number):
     return is_killed
 
 
-def main():
+def main() -> None:
     options = common.parser(__doc__)
     options.add_argument("--kills", type=int, default=200, help="how many rounds with a kill there are (default: 200)")
     options.add_argument("--seed", type=int, default=1, help="what the random moments and answers come of (default: 1)")
-    options = options.parse_args()
+    given = options.parse_args()
     with tempfile.TemporaryDirectory() as folder:
-        trial = Trial(options.program, pathlib.Path(folder), random.Random(options.seed))
+        trial = Trial(given.program, pathlib.Path(folder), random.Random(given.seed))
         kills = number = 0
         try:
-            while kills < options.kills and len(WRONG) < 20:
+            while kills < given.kills and len(WRONG) < 20:
                 number += 1
                 kills += round_of(trial, number)
                 if number % 10 == 0:

@@ -5,6 +5,8 @@ tables, the skip link, contrast of texts (4.5:1, large ones 3:1) and of the bord
 """
 import collections
 
+from browser import Browser
+
 ACCESS = r"""(() => {
   const wrong = [];
   const say = (what, it) => wrong.push(`${what}: ${it?.outerHTML?.slice(0, 120) ?? ""}`);
@@ -79,7 +81,7 @@ ACCESS = r"""(() => {
 NAMED = {"button", "textbox", "combobox", "link", "radio", "region", "table", "form", "navigation", "DisclosureTriangle"}
 
 
-def named_buttons(browser):
+def named_buttons(browser: Browser) -> tuple[list[str], list[str]]:
     """By the browser's own tree of what is read aloud: the names that several buttons have, and the roles of what has none."""
     nodes = browser.call("Accessibility.getFullAXTree")["nodes"]
     found = [(it["role"]["value"], it.get("name", {}).get("value", "")) for it in nodes if not it.get("ignored") and "role" in it]

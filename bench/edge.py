@@ -15,6 +15,7 @@ import pathlib
 import sys
 import tempfile
 import time
+from collections.abc import Callable, Iterator, Sequence
 
 import common
 import served
@@ -31,7 +32,7 @@ LIKE_A_SENDER = "station-RADIOSENDER"
 USERS = [OWN, OTHER, OFFICE, READER, STATION, LIKE_A_SENDER]
 HIDDEN = "Beta Verlag, whom no other publisher may see"
 RETURN = CSV_HEADER + b"ATABC2600001,10,180\n"
-WRONG = []
+WRONG: list[str] = []
 
 # Who asks, how, for what, and the status. Those of the office itself are 200, 201, 404 for no such path, and 422.
 ROWS = [
@@ -93,7 +94,7 @@ ROWS = [
 ]
 
 
-def disguises(path):
+def disguises(path: str) -> Iterator[str]:
     """A path that is not one's own, written as if it were, or as if it were none."""
     own = f"/v1/senders/{OWN}"
     letter = f"/%{ord(path[1]):02x}{path[2:]}"
@@ -104,16 +105,23 @@ def disguises(path):
     yield from (f"{path}?{own}", f"{path}#{own}", f"{own}?/../../..{path}", f"{own}#/../../..{path}", f"{path};{own}")
     yield from (f"https://localhost{path}", f"http://127.0.0.1:8080{path}", f"https://localhost{own}/../../..{path}", f"//localhost{path}")
     yield from (f"{own} {path}", f"{path} {own}", f"{own}\t{path}", f"{own}/%0a/../../../..{path}", f"{own}/%20/../../../..{path}")
-    yield from (path.upper(), path[1:], "*", f"{own}/..;/..;/..{path}", f"{own}/%252e%252e/%252e%252e/%252e%252e{path}", f"{own}/%00/../../../..{path}")
+    yield from (
+        path.upper(),
+        path[1:],
+        "*",
+        f"{own}/..;/..;/..{path}",
+        f"{own}/%252e%252e/%252e%252e/%252e%252e{path}",
+        f"{own}/%00/../../../..{path}",
+    )
 
 
-def check(what, found, wanted):
+def check(what: str, found: object, wanted: object) -> None:
     if found != wanted:
         WRONG.append(what)
         print(f"{what}: WRONG\n  found  {found}\n  wanted {wanted}", flush=True)
 
 
-def try_rows(proxy):
+def try_rows(proxy: Proxy) -> None:
     for user, method, target, status in ROWS:
         body = RETURN if method == "PUT" and "/returns/" in target else b"none"
         check(f"{user} {method} {target}", asked(proxy, user, method, target, body)[0], status)
@@ -125,27 +133,36 @@ def try_rows(proxy):
     print(f"{len(ROWS) + 5} requests by name", flush=True)
 
 
-def disguised(wanted):
+def disguised(wanted: dict[str, bytes]) -> Iterator[tuple[str | None, str, bytes]]:
     """Who asks for what in disguise, and the text that must not be in the answer."""
     for path, secret in wanted.items():
         assert secret, path
         yield from ((user, target, secret) for target in disguises(path) for user in (NOBODY, OWN, STATION))
 
 
-def hidden_files(proxy):
+def hidden_files(proxy: Proxy) -> Iterator[tuple[str | None, str, bytes]]:
     """The same of files of the proxy's own folder."""
     for name in "passwords", "office.key", "nginx.conf", "access.log":
         content = (proxy.home / name).read_bytes()[:60]
-        for way in "/desk/../", "/desk../", "/desk/%2e%2e/", "/desk/..%2F", "/desk//../", "/", "/desk/x/../../", f"/v1/senders/{OWN}/../../../":
+        for way in (
+            "/desk/../",
+            "/desk../",
+            "/desk/%2e%2e/",
+            "/desk/..%2F",
+            "/desk//../",
+            "/",
+            "/desk/x/../../",
+            f"/v1/senders/{OWN}/../../../",
+        ):
             yield from ((user, way + name, content) for user in (NOBODY, OWN, STATION, READER, OFFICE))
 
 
-def try_disguises(proxy):
+def try_disguises(proxy: Proxy) -> None:
     """No user gets what only others may have; nobody gets the passwords or the key."""
     paths = "/desk/senders.json", f"/v1/senders/{OTHER}/works/W1", "/v1/accounts/I00000000199"
     asking = [*disguised({path: asked(proxy, OFFICE, "GET", path)[1] for path in paths}), *hidden_files(proxy)]
 
-    def try_one(number):
+    def try_one(number: int) -> None:
         user, target, secret = asking[number]
         status, body = asked(proxy, user, "GET", target, source=f"127.0.1.{number % 6 + 1}")
         check(f"{user} GET {target}: {status}", secret in body or HIDDEN.encode() in body, False)
@@ -156,7 +173,7 @@ def try_disguises(proxy):
     print(f"{len(asking)} requests in disguise", flush=True)
 
 
-def close_long_pool(server):
+def close_long_pool(server: Server) -> bytes:
     """Closes a pool of 160,000 recordings that nobody has, over 16 returns."""
     connection = server.connection()
     for number in range(1, 17):
@@ -171,11 +188,11 @@ def close_long_pool(server):
     return table
 
 
-def try_slow_reader(proxy, table):
+def try_slow_reader(proxy: Proxy, table: bytes) -> None:
     with connected(proxy.port, proxy, buffer=1 << 14) as peer:
         peer.sendall(head_of(OFFICE, "GET", "/v1/pools/9"))
         begun, text = time.monotonic(), peer.recv(1 << 14)
-        others = []
+        others: list[float] = []
         while part := peer.recv(1 << 14):
             text += part
             time.sleep(0.02)
@@ -185,32 +202,35 @@ def try_slow_reader(proxy, table):
                 others.append(time.monotonic() - asked_at)
     body = text.partition(b"\r\n\r\n")[2]
     check("a long pool to a slow reader", (len(body), body == table), (len(table), True))
-    print(f"a pool of {len(body):,} bytes read in {time.monotonic() - begun:.1f} s; {len(others)} others answered meanwhile, "
-          f"the slowest after {max(others):.2f} s", flush=True)
+    print(
+        f"a pool of {len(body):,} bytes read in {time.monotonic() - begun:.1f} s; {len(others)} others answered meanwhile, "
+        f"the slowest after {max(others):.2f} s",
+        flush=True,
+    )
 
 
-def try_limits(proxy, cases):
+def try_limits(proxy: Proxy, cases: list[edge_limits.Case]) -> None:
     for name, holds in edge_limits.tried(proxy, cases).items():
         check(f"limit: {name}", holds, True)
     print(f"{len(cases)} limits and headers", flush=True)
 
 
-def try_planted(cases, started):
+def try_planted(cases: list[edge_limits.Case], started: Callable[[list[tuple[str, str]]], Proxy]) -> None:
     """Each case fails where one of its lines is taken away, or another is put in its place."""
     for case in cases:
         for change in edge_limits.CASES[case]:
             proxy = started([change])
             try:
                 fails = not edge_limits.tried(proxy, [case])[case.__name__]
-            except (AssertionError, OSError) as error:
-                fails = str(error) or "not as wanted"
+            except (AssertionError, OSError):
+                fails = True
             finally:
                 proxy.close()
-            check(f"{case.__name__} without {change[0].strip()}", bool(fails), True)
+            check(f"{case.__name__} without {change[0].strip()}", fails, True)
             print(f"{case.__name__} fails without: {change[0].strip()}" if fails else "", flush=True)
 
 
-def add_works(server):
+def add_works(server: Server) -> None:
     connection = server.connection()
     for sender in OWN, OTHER:
         status, text = served.ask(connection, "PUT", f"/v1/senders/{sender}/transmissions/1", changed(FIRST, 1, 4, sender.encode()))
@@ -218,30 +238,30 @@ def add_works(server):
     connection.close()
 
 
-def main():
+def main() -> None:
     options = common.parser(__doc__)
     options.add_argument("--planted", action="store_true", help="try the limits without their lines")
     common.add_cases(options, [it.__name__ for it in edge_limits.CASES])
-    options = options.parse_args()
+    given = options.parse_args()
     account = "www-data" if os.geteuid() == 0 else None
-    cases = [it for it in edge_limits.CASES if options.case in it.__name__]
-    with tempfile.TemporaryDirectory(ignore_cleanup_errors=True) as folder, Server(options.program, f"{folder}/office.db") as server:
+    cases = [it for it in edge_limits.CASES if given.case in it.__name__]
+    with tempfile.TemporaryDirectory(ignore_cleanup_errors=True) as folder, Server(given.program, f"{folder}/office.db") as server:
         add_works(server)
         table = close_long_pool(server)
 
-        def started(changes=()):
+        def started(changes: Sequence[tuple[str, str]] = ()) -> Proxy:
             home = pathlib.Path(tempfile.mkdtemp(dir=folder))
             pathlib.Path(folder).chmod(0o755)
             proxy = Proxy(home, server.port, USERS, [[OTHER, HIDDEN]], account, changes=changes)
             proxy.long_pool = table
             return proxy
 
-        if options.planted:
+        if given.planted:
             try_planted(cases, started)
         else:
             proxy = started()
             try:
-                if not options.case:
+                if not given.case:
                     try_rows(proxy)
                     try_disguises(proxy)
                     try_slow_reader(proxy, table)

@@ -10,25 +10,26 @@ import math
 import pathlib
 import random
 import tempfile
+from collections.abc import Callable, Iterable, Iterator, Sequence
 
 import common
 import measured
 import served
 from bodies import REVISION, FIRST, SENDER, get, plays, put_file, put_pool, put_return, works_file
-from measured import Server
+from measured import Server, Sized
 
 PATH = f"/v1/senders/{SENDER}"
 
 
-def sender(k):
+def sender(k: int) -> str:
     return f"PB{k:09d}"
 
 
-def revisions_of_one_work(count):
+def revisions_of_one_work(count: int) -> Sized:
     return put_file(FIRST) + b"".join(put_file(REVISION, n + 2) for n in range(count)), count
 
 
-def in_turn(count, senders):
+def in_turn(count: int, senders: int) -> Iterator[tuple[str, int, bytes]]:
     """The path and the body of files of one work that senders send in turn, their works in no order."""
     works = list(range(count))
     random.Random(7).shuffle(works)
@@ -37,43 +38,43 @@ def in_turn(count, senders):
         yield name, n // senders + 1, works_file(works[n], 1, name)
 
 
-def works_of_many_senders(count):
+def works_of_many_senders(count: int) -> Sized:
     return b"".join(put_file(body, number, name) for name, number, body in in_turn(count, 40)), count
 
 
-def one_long_line(count):
+def one_long_line(count: int) -> Sized:
     return b"".join(put_file(body, number, name) for name, number, body in in_turn(count, 1)), count
 
 
-def held_ones_downwards(count):
+def held_ones_downwards(count: int) -> Sized:
     return b"".join(put_file(works_file(n, 1), n) for n in range(count, 0, -1)), count
 
 
-def repeats(count):
+def repeats(count: int) -> Sized:
     return put_file(FIRST) * count, count
 
 
-def full_files(count):
+def full_files(count: int) -> Sized:
     return b"".join(put_file(works_file(n * 850, 850), n + 1) for n in range(count)), count * 850
 
 
-def returns(count):
+def returns(count: int) -> Sized:
     return b"".join(put_return(plays(n + 1, 100), n + 1) for n in range(count)), count
 
 
-def pools(count):
+def pools(count: int) -> Sized:
     files = put_file(works_file(0, 20))
     played = b"".join(put_return(plays(n + 1, 20), n + 1) for n in range(count))
     orders = b"".join(put_pool(n + 1, 100_000, [[SENDER, 1]], [["RADIO1", n + 1]]) for n in range(count))
     return files + played + orders, count
 
 
-def questions(count):
+def questions(count: int) -> Sized:
     paths = PATH, f"{PATH}/works/W0", f"{PATH}/verdicts/1", "/v1/accounts/I00000000199"
     return put_file(works_file(0, 1)) + get(*paths) * (count // 4), count
 
 
-def tiny_requests(count):
+def tiny_requests(count: int) -> Sized:
     return get("/") * count, count
 
 
@@ -91,26 +92,26 @@ STREAMS = {
     "tiny requests": (tiny_requests, 1_000_000),
 }
 
-STARTS = {
+STARTS: dict[str, tuple[Callable[[int], Iterator[tuple[str, int, bytes]]], int]] = {
     "start: files of one work of 100 senders": (lambda count: in_turn(count, 100), 20_000),
     "start: files of one work of one sender": (lambda count: in_turn(count, 1), 20_000),
 }
 
 
-def exponent(sizes, seconds):
+def exponent(sizes: Sequence[int], seconds: Sequence[float]) -> str:
     """How the seconds grow with the sizes; none where the lesser is too short to tell."""
     if seconds[0] < 0.02:
         return "-"
     return f"{math.log(seconds[1] / seconds[0]) / math.log(sizes[1] / sizes[0]):.2f}"
 
 
-def held_memory(pid):
+def held_memory(pid: int) -> float:
     """The memory that a process holds, in MB."""
     lines = pathlib.Path(f"/proc/{pid}/status").read_text().splitlines()
     return int(next(it for it in lines if it.startswith("VmRSS")).split()[1]) / 1_000
 
 
-def started(program, files):
+def started(program: str, files: Iterable[tuple[str, int, bytes]]) -> tuple[float, float, float, float]:
     """Of a start over a file of these: its processor seconds, its peak, and the memory held before and after."""
     with tempfile.TemporaryDirectory() as folder:
         path = f"{folder}/office.db"
@@ -125,30 +126,33 @@ def started(program, files):
             return server.processor, measured.peak_memory(pid), before, held_memory(pid)
 
 
-def main():
+def main() -> None:
     options = common.parser(__doc__)
     options.add_argument("--scale", type=float, default=0.1, help="size of all, 1 being some minutes (default: 0.1)")
     options.add_argument("--runs", type=int, default=2, help="runs of each size of a stream (default: 2)")
-    common.add_cases(options, {**STREAMS, **STARTS})
-    options = options.parse_args()
+    common.add_cases(options, [*STREAMS, *STARTS])
+    given = options.parse_args()
     print("| Stream | Size | Seconds | Peak MB | Size | Seconds | Peak MB | Exponent |\n|---|---|---|---|---|---|---|---|")
     for name, (stream_of, most) in STREAMS.items():
-        if options.case not in name:
+        if given.case not in name:
             continue
         runs, sizes = [], []
         for part in 3, 1:
-            stream, count = stream_of(max(3, int(most * options.scale) // part))
+            stream, count = stream_of(max(3, int(most * given.scale) // part))
             sizes.append(count)
-            runs.append(measured.least_of(options.program, stream, options.runs, 20))
+            runs.append(measured.least_of(given.program, stream, given.runs, 20))
         cells = [f"{size:,} | {run.processor:.2f} | {run.peak:.1f}" for size, run in zip(sizes, runs)]
         print(f"| {name} | {' | '.join(cells)} | {exponent(sizes, [it.processor for it in runs])} |", flush=True)
     for name, (files_of, most) in STARTS.items():
-        if options.case not in name:
+        if given.case not in name:
             continue
-        sizes = [max(3, int(most * options.scale) // part) for part in (3, 1)]
-        runs = [started(options.program, files_of(size)) for size in sizes]
-        cells = [f"{size:,} | {seconds:.2f} | {peak:.1f} (held {before:.1f}, then {after:.1f})" for size, (seconds, peak, before, after) in zip(sizes, runs)]
-        print(f"| {name} | {' | '.join(cells)} | {exponent(sizes, [it[0] for it in runs])} |", flush=True)
+        sizes = [max(3, int(most * given.scale) // part) for part in (3, 1)]
+        starts = [started(given.program, files_of(size)) for size in sizes]
+        cells = [
+            f"{size:,} | {seconds:.2f} | {peak:.1f} (held {before:.1f}, then {after:.1f})"
+            for size, (seconds, peak, before, after) in zip(sizes, starts)
+        ]
+        print(f"| {name} | {' | '.join(cells)} | {exponent(sizes, [it[0] for it in starts])} |", flush=True)
 
 
 if __name__ == "__main__":

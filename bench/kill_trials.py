@@ -17,12 +17,15 @@ import served
 from bodies import order_body, plays, works_file
 from measured import Server
 
+# Of each sender the numbers that wait to be sent; how many there are of each kind, and of the files of each sender.
+Fronts = dict[str, list[int]]
+Counts = dict[str, int]
 ADDED = (201, 202)
 SAMPLE = 200
 SENDERS = [f"PB{k:09d}" for k in range(1, 6)]
 
 
-def next_request(chance, fronts, counts):
+def next_request(chance: random.Random, fronts: Fronts, counts: Counts) -> tuple[str, bytes]:
     """A path and a body that was not sent yet: mostly the next file of a sender, sometimes one after a gap, a return or an order."""
     kind = chance.random()
     if kind < 0.1:
@@ -43,7 +46,7 @@ def next_request(chance, fronts, counts):
     return f"/v1/senders/{sender}/transmissions/{number}", works_file(number, 1 + number % 3, sender)
 
 
-def load(server, chance, fronts, counts, answered):
+def load(server: Server, chance: random.Random, fronts: Fronts, counts: Counts, answered: list[tuple[str, bytes]]) -> tuple[str, bytes]:
     """Sends requests until the server is gone; answers the one that was cut off."""
     connection = server.connection()
     while True:
@@ -57,12 +60,12 @@ def load(server, chance, fronts, counts, answered):
         answered.append((path, body))
 
 
-def sample(chance, answered):
+def sample(chance: random.Random, answered: list[tuple[str, bytes]]) -> list[tuple[str, bytes]]:
     """The last requests and as many others."""
     return answered[-SAMPLE:] + chance.sample(answered[:-SAMPLE], min(SAMPLE, len(answered[:-SAMPLE])))
 
 
-def checked(server, requests):
+def checked(server: Server, requests: list[tuple[str, bytes]]) -> int:
     """How many requests are there: each is sent again and answered 200."""
     connection = server.connection()
     for path, body in requests:
@@ -73,7 +76,7 @@ def checked(server, requests):
     return len(requests)
 
 
-def is_kept(server, path, body):
+def is_kept(server: Server, path: str, body: bytes) -> bool:
     """Sends the request that was cut off again; whether it is there. Else it is added now."""
     connection = server.connection()
     status, _ = served.ask(connection, "PUT", path, body)
@@ -83,31 +86,32 @@ def is_kept(server, path, body):
     return status == 200
 
 
-def main():
+def main() -> None:
     options = common.parser(__doc__)
     options.add_argument("--kills", type=int, default=20, help="how often it is killed (default: 20)")
     options.add_argument("--seed", type=int, default=1, help="what the random moments and requests come of (default: 1)")
     options.add_argument("--longest", type=float, default=0.4, help="most seconds of load before a kill (default: 0.4)")
     options.add_argument("file", nargs="?", help="the database (default: a new one)")
-    options = options.parse_args()
-    path = options.file or measured.new_database()
+    given = options.parse_args()
+    path = given.file or measured.new_database()
     print(f"database: {path}")
-    chance, fronts, answered, kept = random.Random(options.seed), {}, [], 0
+    chance, answered, kept = random.Random(given.seed), list[tuple[str, bytes]](), 0
+    fronts: Fronts = {}
     counts = {"return": 0, "paid": 0, "pool": 0} | {it: 0 for it in SENDERS}
-    for kill in range(options.kills):
-        with Server(options.program, path) as server:
+    for kill in range(given.kills):
+        with Server(given.program, path) as server:
             there = checked(server, sample(chance, answered))
             print(f"start {kill + 1}: {server.seconds:.2f} s, {there} of {len(answered)} answered requests asked for", flush=True)
-            killing = f"import os, time; time.sleep({chance.uniform(0.005, options.longest)}); os.kill({server.process.pid}, 9)"
+            killing = f"import os, time; time.sleep({chance.uniform(0.005, given.longest)}); os.kill({server.process.pid}, 9)"
             killer = subprocess.Popen([sys.executable, "-c", killing])
             cut = load(server, chance, fronts, counts, answered)
             killer.wait()
-        with Server(options.program, path) as server:
+        with Server(given.program, path) as server:
             kept += is_kept(server, *cut)
             answered.append(cut)
-    with Server(options.program, path) as server:
+    with Server(given.program, path) as server:
         there = checked(server, answered)
-        print(f"{options.kills} kills, {there} requests there, {kept} of those cut off were kept; last start {server.seconds:.2f} s")
+        print(f"{given.kills} kills, {there} requests there, {kept} of those cut off were kept; last start {server.seconds:.2f} s")
 
 
 if __name__ == "__main__":

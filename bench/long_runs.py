@@ -7,7 +7,7 @@ answer is a 503, and the memory is reported beside the bytes that the book keeps
 """
 import os
 import pathlib
-import subprocess
+
 import threading
 import time
 
@@ -21,36 +21,36 @@ PATH = f"/v1/senders/{SENDER}"
 class Replay:
     """The program, to which requests are sent while a thread reads what it writes."""
 
-    def __init__(self, program):
-        pipes = {"stdin": subprocess.PIPE, "stdout": subprocess.PIPE}
-        self.process = subprocess.Popen([program, "replay", *served.OFFICE], **pipes)
+    def __init__(self, program: str) -> None:
+        self.process = served.begun_replay(program)
+        self.into, self.out = served.pipes(self.process)
 
-    def ask(self, stream, rounds, size):
+    def ask(self, stream: bytes, rounds: int, size: int) -> bytes:
         """Sends a stream again and again, and compares the bytes that are written, as many in each round, with the first round's."""
-        first = []
+        first: list[bytes] = []
         reader = threading.Thread(target=self.compare, args=(rounds, size, first))
         reader.start()
         for _ in range(rounds):
-            self.process.stdin.write(stream)
-        self.process.stdin.flush()
+            self.into.write(stream)
+        self.into.flush()
         reader.join()
         return first[0]
 
-    def compare(self, rounds, size, first):
+    def compare(self, rounds: int, size: int, first: list[bytes]) -> None:
         for _ in range(rounds):
-            text = self.process.stdout.read(size)
+            text = self.out.read(size)
             first.append(text)
             if text != first[0]:
                 print("another answer", text, first[0])
                 os._exit(1)
             del first[1:]
 
-    def end(self):
+    def end(self) -> bytes:
         """What is written after the last answer."""
-        self.process.stdin.close()
-        return self.process.stdout.read()
+        self.into.close()
+        return self.out.read()
 
-    def memory(self):
+    def memory(self) -> tuple[int, int]:
         """The memory that the program has of the system for its data, and how much of it was ever touched, in kB."""
         lines = pathlib.Path(f"/proc/{self.process.pid}/status").read_text().split("\n")
         taken = dict(it.split(":\t") for it in lines if it.startswith(("VmData", "RssAnon")))
@@ -64,7 +64,7 @@ QUESTIONS = get(PATH, f"{PATH}/works/W1", f"{PATH}/verdicts/1", f"{PATH}/acks/1"
 ROUND = QUESTIONS + put_file(FIRST) + put_file(NO_WORKS) + put_return(PLAYS) + ORDER
 
 
-def a_million_requests(program):
+def a_million_requests(program: str) -> None:
     setting = served.replay(program, SETTING)
     size = len(served.replay(program, SETTING + ROUND)) - len(setting)
     replay = Replay(program)
@@ -81,7 +81,7 @@ def a_million_requests(program):
     assert late <= early, "the memory grew"
 
 
-def a_hundred_thousand_puts(program):
+def a_hundred_thousand_puts(program: str) -> None:
     puts = [put_file(FIRST, n) for n in range(1, 100_001)]
     texts = [b'{"front":%d,"state":"applied"}' % n for n in range(1, 100_001)]
     head = b"HTTP/1.1 201 Created\r\nContent-Type: application/json\r\nContent-Length: %d\r\n\r\n%s"
@@ -96,7 +96,7 @@ def a_hundred_thousand_puts(program):
     print(f"100,000 puts of {len(FIRST)} bytes: {passed:.1f} s, {touched} kB touched; the book keeps {kept} kB of bodies")
 
 
-def main():
+def main() -> None:
     options = common.parser(__doc__).parse_args()
     a_million_requests(options.program)
     a_hundred_thousand_puts(options.program)

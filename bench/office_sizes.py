@@ -7,9 +7,11 @@ needed. Reported are, at each step on the way, the works, the bytes of the datab
 return of 10,000 rows, a pool over all works and that return, a pool over returns in which each work is played, the reading of both
 tables, and the start after that. On a disk each put waits for two flushes; in a folder in memory (`--folder`) it does not.
 """
+import http.client
 import pathlib
 import tempfile
 import time
+from collections.abc import Callable
 
 import common
 import measured
@@ -24,12 +26,12 @@ ROWS = 10_000
 NEW_LINE = b"\n"
 
 
-def ordered(k):
+def ordered(k: int) -> bytes:
     """Work numbers that ascend as texts."""
     return b"W%08d" % k
 
 
-def shuffled(k):
+def shuffled(k: int) -> bytes:
     """Work numbers in no order, each once."""
     return b"W%010d" % (k * 2_654_435_761 % 2**32)
 
@@ -48,12 +50,12 @@ CASES = {
 }
 
 
-def sender_of(file):
+def sender_of(file: int) -> tuple[str, int]:
     """The sender of the k-th file, from 0, and its number there."""
     return f"PB{file // FILES_PER_SENDER + 1:09d}", file % FILES_PER_SENDER + 1
 
 
-def size_of(path):
+def size_of(path: pathlib.Path) -> int:
     """The bytes of a database and of its log."""
     return sum(it.stat().st_size for it in path.parent.glob(path.name + "*"))
 
@@ -61,10 +63,10 @@ def size_of(path):
 class Meter:
     """What a server used since it was last asked."""
 
-    def __init__(self, server):
+    def __init__(self, server: Server) -> None:
         self.server, self.passed, self.processor = server, time.monotonic(), server.processor
 
-    def since(self):
+    def since(self) -> tuple[float, float]:
         """Processor seconds and the seconds that passed."""
         passed, processor = time.monotonic(), measured.processor_seconds(self.server.process.pid)
         found = processor - self.processor, passed - self.passed
@@ -72,7 +74,7 @@ class Meter:
         return found
 
 
-def fill(server, path, works, per_file, number_of, steps):
+def fill(server: Server, path: pathlib.Path, works: int, per_file: int, number_of: Callable[[int], bytes], steps: int) -> int:
     """Sends files until all works are there, and reports each step."""
     connection, meter, pid = server.connection(), Meter(server), server.process.pid
     files = -(-works // per_file)
@@ -85,31 +87,35 @@ def fill(server, path, works, per_file, number_of, steps):
         if (file + 1) * steps // files > file * steps // files:
             processor, passed = meter.since()
             sent, there = files / steps, min(works, (file + 1) * per_file)
-            rates = f"{sent / processor:,.0f} puts and {sent * per_file / processor:,.0f} works a second of processor, {passed:.0f} s passed"
+            rates = (
+                f"{sent / processor:,.0f} puts and {sent * per_file / processor:,.0f} works a second of processor, {passed:.0f} s passed"
+            )
             print(f"  {there:,} works: {size_of(path) / 1e6:,.0f} MB, {rates}, memory {measured.peak_memory(pid):,.0f} MB", flush=True)
     connection.close()
     return files
 
 
-def report_start(server, path):
+def report_start(server: Server, path: pathlib.Path) -> None:
     memory = measured.peak_memory(server.process.pid)
-    print(f"  a start: {server.processor:.1f} s of processor, {server.seconds:.1f} s passed, memory {memory:,.0f} MB, {size_of(path) / 1e6:,.0f} MB", flush=True)
+    times = f"{server.processor:.1f} s of processor, {server.seconds:.1f} s passed"
+    print(f"  a start: {times}, memory {memory:,.0f} MB, {size_of(path) / 1e6:,.0f} MB", flush=True)
 
 
-def report(server, meter, name):
+def report(server: Server, meter: Meter, name: str) -> None:
     """Reports what the last requests used."""
     processor, passed = meter.since()
     memory = measured.peak_memory(server.process.pid)
     print(f"  {name}: {processor:.2f} s of processor, {passed:.2f} s passed, memory {memory:,.0f} MB", flush=True)
 
 
-def taken(connection, where, body):
+def taken(connection: http.client.HTTPConnection, where: str, body: bytes) -> None:
     status, text = served.ask(connection, "PUT", where, body)
     assert status == 201, (where, status, text)
 
 
-def close_pools(server, files, works, number_of):
-    """Closes a pool over all works and a return of 10,000 rows, and one over returns in which each work is played, and reads their tables."""
+def close_pools(server: Server, files: int, works: int, number_of: Callable[[int], bytes]) -> None:
+    """Closes a pool over all works and a return of 10,000 rows, and one over returns in which each work is played, and reads their
+    tables."""
     connection, meter = server.connection(), Meter(server)
     last_sender, last = sender_of(files - 1)
     senders = [sender_of(it * FILES_PER_SENDER)[0] for it in range(-(-files // FILES_PER_SENDER))]
@@ -135,7 +141,7 @@ def close_pools(server, files, works, number_of):
     connection.close()
 
 
-def measure(program, path, works, per_file, number_of, steps):
+def measure(program: str, path: pathlib.Path, works: int, per_file: int, number_of: Callable[[int], bytes], steps: int) -> None:
     with Server(program, path) as server:
         files = fill(server, path, works, per_file, number_of, steps)
     with Server(program, path) as server:
@@ -145,16 +151,16 @@ def measure(program, path, works, per_file, number_of, steps):
         report_start(server, path)
 
 
-def main():
+def main() -> None:
     options = common.parser(__doc__)
     options.add_argument("--steps", type=int, default=5, help="how often the filling is reported (default: 5)")
     options.add_argument("--folder", type=pathlib.Path, help="where the databases are made (default: the system's folder for such files)")
     common.add_cases(options, CASES)
-    options = options.parse_args()
-    for name in (it for it in CASES if options.case in it):
+    given = options.parse_args()
+    for name in (it for it in CASES if given.case in it):
         print(name, flush=True)
-        with tempfile.TemporaryDirectory(dir=options.folder) as folder:
-            measure(options.program, pathlib.Path(folder) / "office.db", *CASES[name], options.steps)
+        with tempfile.TemporaryDirectory(dir=given.folder) as folder:
+            measure(given.program, pathlib.Path(folder) / "office.db", *CASES[name], given.steps)
 
 
 if __name__ == "__main__":

@@ -5,12 +5,12 @@ With a folder of samples: each NAME.layoutN*.db is audited, which writes nothing
 office of today, which has to be the same as the file once it is taken over. It is opened, and sent NAME.later.http, whose answers have to
 be those of NAME.later.answers, byte for byte. Then changed rows of each are refused, and the file's bytes stay.
 
-With --measure: a file of so many transmissions of one work is filled, made a file of layout 2 and one of layout 1 by `sqlite3`, and opened in
-each layout; reported are the seconds that passed and the peak memory until it listens. Ends with status 1 where anything differs.
+With --measure: a file of so many transmissions of one work is filled, made a file of layout 2 and one of layout 1 by `sqlite3`, and opened
+in each layout; reported are the seconds that passed and the peak memory until it listens. Ends with status 1 where anything differs.
 """
 import pathlib
 import shutil
-import socket
+
 import subprocess
 import sys
 import tempfile
@@ -19,7 +19,7 @@ import common
 import measured
 import served
 from measured import Server
-from served import OFFICE, ROOT
+from served import ROOT
 from society_office.book import page_sums
 
 # What makes layout 2 of layout 3, and layout 1 of layout 2.
@@ -45,44 +45,38 @@ CHANGES = [
 ]
 
 
-def changed_by(path, statements):
+def changed_by(path: pathlib.Path, statements: str) -> None:
     """Runs statements on a file with sqlite3, so that nothing is left beside it."""
     with page_sums.changed(path) as connection:
         connection.executescript(statements)
         connection.execute("PRAGMA wal_checkpoint(TRUNCATE)")
 
 
-def answers_to(server, stream):
-    """What a server writes on one connection to requests that are all sent at once."""
-    with socket.create_connection(("127.0.0.1", server.port)) as it:
-        it.sendall(stream)
-        it.shutdown(socket.SHUT_WR)
-        return b"".join(iter(lambda: it.recv(1 << 16), b""))
+def said(ended: served.Ended) -> str:
+    """What a run printed."""
+    return (ended.out + ended.err).decode().strip()
 
 
-def audited(program, path):
+def audited(program: str, path: pathlib.Path) -> tuple[str, bool]:
     """What `society audit` says of a file, and whether the file is as it was."""
     before = path.read_bytes()
-    run = subprocess.run([program, "audit", "--db", path, *OFFICE], stdout=subprocess.PIPE, stderr=subprocess.STDOUT)
-    return run.stdout.decode().strip(), path.read_bytes() == before
+    return said(served.audit(program, path)), path.read_bytes() == before
 
 
-def rebuilt(program, path):
+def rebuilt(program: str, path: pathlib.Path) -> bool:
     """Whether an empty office that gets all that the file has is the same as the file once it is taken over; the file stays as it was."""
     before = path.read_bytes()
     run = subprocess.run([ROOT / "office/society-office", "rebuild", path, "--program", program], capture_output=True, text=True)
     return run.returncode == 0 and "follows from what was sent: " in run.stdout and path.read_bytes() == before
 
 
-def refused(program, path):
+def refused(program: str, path: pathlib.Path) -> tuple[str, bool]:
     """What is told where a file is not opened, and whether it is as it was."""
     before = path.read_bytes()
-    options = ["--db", path, "--port", str(served.free_port()), "--connections", "1", *OFFICE]
-    run = subprocess.run([program, "serve", *options], stdout=subprocess.PIPE, stderr=subprocess.STDOUT, timeout=60)
-    return run.stdout.decode().strip(), path.read_bytes() == before
+    return said(served.run(program, served.serve_words(path, served.free_port()))), path.read_bytes() == before
 
 
-def try_sample(program, folder, sample):
+def try_sample(program: str, folder: pathlib.Path, sample: pathlib.Path) -> list[str]:
     """Opens a sample, and then each changed one; answers what differs."""
     name, layout = sample.name.split(".")[0], int(sample.name.split(".layout")[1][0])
     work, wrong = folder / "office.db", []
@@ -93,7 +87,7 @@ def try_sample(program, folder, sample):
     if not rebuilt(program, work):
         wrong.append("rebuilt")
     with Server(program, work) as server:
-        seen = answers_to(server, sample.with_name(f"{name}.later.http").read_bytes())
+        seen = server.sent(sample.with_name(f"{name}.later.http").read_bytes())
     if seen != sample.with_name(f"{name}.later.answers").read_bytes():
         wrong.append("later answers")
     for statements, layouts, told in CHANGES:
@@ -108,7 +102,7 @@ def try_sample(program, folder, sample):
     return wrong
 
 
-def try_samples(program, samples):
+def try_samples(program: str, samples: pathlib.Path) -> bool:
     failed = False
     found = sorted(samples.glob("*.layout*.db"))
     if not found:
@@ -121,7 +115,7 @@ def try_samples(program, samples):
     return failed
 
 
-def measure(program, count):
+def measure(program: str, count: int) -> None:
     path = measured.new_database()
     measured.filled(program, path, measured.files(count, 1))
     for layout, statements in (3, ""), (2, SECOND), (1, FIRST):
@@ -130,10 +124,13 @@ def measure(program, count):
         shutil.copy(path, copy)
         size = copy.stat().st_size / 1_000_000
         processor, passed, peak = measured.opened(program, copy)
-        print(f"{count:,} transmissions, layout {layout}: {size:.0f} MB, {processor:.1f} s of processor, {passed:.1f} s, {peak:.0f} MB", flush=True)
+        print(
+            f"{count:,} transmissions, layout {layout}: {size:.0f} MB, {processor:.1f} s of processor, {passed:.1f} s, {peak:.0f} MB",
+            flush=True,
+        )
 
 
-def main():
+def main() -> None:
     options = common.parser(__doc__)
     options.add_argument("samples", nargs="?", type=pathlib.Path, help="a folder of samples")
     options.add_argument("--measure", type=int, metavar="COUNT", help="how many transmissions the file has")

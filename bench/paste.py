@@ -4,10 +4,10 @@
 A block of commands is a fenced block with the word `sh`; what it prints is a fenced block with the word `text`, where that is the
 next fenced block under the same heading.
 Each document begins in a fresh copy of the checkout, in a folder of its own, in which bin/society runs the program, and with the program on
-the PATH as `society`; its blocks go into one bash. Standard output and standard error are compared with the text block line by line, but for
-blanks at the ends of lines and the shell's own lines on jobs; a block without a text block has to end with status 0. What the blocks
-left running is reported and stopped. Ends with status 1 where anything differs, or where a package that the blocks use is missing, which
-is named before any is pasted.
+the PATH as `society`; its blocks go into one bash. Standard output and standard error are compared with the text block line by line, but
+for blanks at the ends of lines and the shell's own lines on jobs; a block without a text block has to end with status 0. What the blocks
+left running is reported and stopped. Ends with status 1 where anything differs, or where a package that the blocks use is missing, which is
+named before any is pasted.
 """
 import argparse
 import ctypes
@@ -24,8 +24,10 @@ import subprocess
 import sys
 import tempfile
 import time
+from collections.abc import Iterator
 
 import common
+import served
 from served import ROOT
 
 DOCUMENTS = ["README.md", "docs/OPERATIONS.md", "docs/PUBLISHERS.md", "docs/STATIONS.md", "docs/OFFICE.md"]
@@ -52,9 +54,9 @@ class Block:
     wanted: str | None = None
 
 
-def fenced(text):
+def fenced(text: str) -> Iterator[tuple[int, str, str, bool]]:
     """Each fenced block: the number of its first line, its word, its text, and whether a heading stands between it and the one before."""
-    lines, opened, between = text.splitlines(), None, []
+    lines, opened, between, inside = text.splitlines(), None, list[str](), list[str]()
     for number, line in enumerate(lines, 1):
         fence = FENCE.match(line)
         if opened is None and fence:
@@ -70,7 +72,7 @@ def fenced(text):
         raise ValueError(f"the block at line {opened[3]} has no end")
 
 
-def blocks(text):
+def blocks(text: str) -> list[Block]:
     """The blocks of commands of a document; one in a comment, which readers don't see, is pasted too."""
     found, last = [], None
     for line, word, inside, has_heading in fenced(text):
@@ -84,7 +86,7 @@ def blocks(text):
     return found
 
 
-def fresh_copy(program, folder):
+def fresh_copy(program: str, folder: pathlib.Path) -> None:
     """Copies what git keeps or would keep into a folder, as it is now, in which bin/society then runs the program."""
     names = subprocess.run(["git", "ls-files", "-co", "--exclude-standard", "-z"], cwd=ROOT, capture_output=True, check=True).stdout
     for name in filter(None, names.decode().split("\0")):
@@ -99,7 +101,7 @@ def fresh_copy(program, folder):
     shutil.copy(program, place)
 
 
-def descendants():
+def descendants() -> dict[int, str]:
     """The processes that this one started, and those that these did, by their ids, with their commands."""
     parents = {}
     for entry in pathlib.Path("/proc").glob("[0-9]*"):
@@ -110,14 +112,14 @@ def descendants():
                 parents[int(entry.name)] = int(fields[1]), command
         except OSError:
             continue
-    found, new = {}, {os.getpid()}
+    found, new = dict[int, str](), {os.getpid()}
     while new:
         new = {pid for pid, (parent, _) in parents.items() if parent in new}
         found |= {pid: parents[pid][1] for pid in new}
     return found
 
 
-def ended(seconds):
+def ended(seconds: float) -> dict[int, str]:
     """Waits for the end of all that was started, no longer than this; answers what is still running."""
     end = time.monotonic() + seconds
     while (left := descendants()) and time.monotonic() < end:
@@ -125,7 +127,7 @@ def ended(seconds):
     return left
 
 
-def stopped():
+def stopped() -> list[str]:
     """Ends all that is still running of what was started; answers their commands. What was stopped by the blocks has a moment to end."""
     left = ended(2)
     for how in signal.SIGTERM, signal.SIGKILL:
@@ -143,39 +145,40 @@ class Shell:
 
     MARK = "end of the block"
 
-    def __init__(self, checkout, path):
+    def __init__(self, checkout: pathlib.Path, path: pathlib.Path) -> None:
         env = {"PATH": f"{path}:{os.environ['PATH']}", "HOME": str(checkout.parent), "LANG": "C.UTF-8", "TERM": "dumb"}
         env |= dict.fromkeys(["http_proxy", "https_proxy", "all_proxy"], NO_PROXY)
-        pipes = {"stdin": subprocess.PIPE, "stdout": subprocess.PIPE, "stderr": subprocess.STDOUT}
-        self.process = subprocess.Popen(["bash", "--noprofile", "--norc"], cwd=checkout, env=env, **pipes)
-        os.set_blocking(self.process.stdout.fileno(), False)
+        words, pipe = ["bash", "--noprofile", "--norc"], subprocess.PIPE
+        self.process = subprocess.Popen(words, cwd=checkout, env=env, stdin=pipe, stdout=pipe, stderr=subprocess.STDOUT)
+        self.into, self.out = served.pipes(self.process)
+        os.set_blocking(self.out.fileno(), False)
         self.ready = selectors.DefaultSelector()
-        self.ready.register(self.process.stdout, selectors.EVENT_READ)
+        self.ready.register(self.out, selectors.EVENT_READ)
         self.text = b""
 
-    def paste(self, commands, seconds):
+    def paste(self, commands: str, seconds: float) -> tuple[str, int | None]:
         """What is printed, and the last command's status; None for a status where there was no end within the time."""
         end = time.monotonic() + seconds
-        self.process.stdin.write(f"{commands}printf '\\n{self.MARK}: %s\\n' $?\n".encode())
-        self.process.stdin.flush()
+        self.into.write(f"{commands}printf '\\n{self.MARK}: %s\\n' $?\n".encode())
+        self.into.flush()
         mark = re.compile(rb"\n" + self.MARK.encode() + rb": (\d+)\n")
         while not (found := mark.search(self.text)):
             if not self.ready.select(max(0, end - time.monotonic())):
                 return self.text.decode(errors="replace"), None
-            part = self.process.stdout.read()
+            part = self.out.read()
             if not part:
                 return self.text.decode(errors="replace"), None
             self.text += part
         printed, self.text = self.text[: found.start()], self.text[found.end() :]
         return printed.decode(errors="replace"), int(found[1])
 
-    def close(self):
-        self.process.stdin.close()
-        self.process.stdout.close()
+    def close(self) -> None:
+        self.into.close()
+        self.out.close()
         self.ready.close()
 
 
-def compared_lines(text):
+def compared_lines(text: str) -> list[str]:
     """A text's lines without blanks at their ends, without the shell's lines on jobs and without empty lines at the end."""
     lines = [it.rstrip() for it in text.split("\n") if not JOBS.match(it.rstrip())]
     while lines and not lines[-1]:
@@ -183,7 +186,7 @@ def compared_lines(text):
     return lines
 
 
-def fault_of(block, printed, status):
+def fault_of(block: Block, printed: str, status: int | None) -> str | None:
     """What is wrong with a block, or None."""
     if status is None:
         return "no end, or the shell ended; printed until then:\n" + printed
@@ -195,7 +198,7 @@ def fault_of(block, printed, status):
     return "another text is printed:\n" + "\n".join(difflib.unified_diff(wanted, found, "in the document", "printed", lineterm=""))
 
 
-def pasted(name, checkout, path, seconds):
+def pasted(name: str, checkout: pathlib.Path, path: pathlib.Path, seconds: float) -> int:
     """Pastes a document; answers how many faults there were."""
     found, faults, passed = blocks((checkout / name).read_text()), 0, []
     shell = Shell(checkout, path)
@@ -226,7 +229,7 @@ def pasted(name, checkout, path, seconds):
     return faults
 
 
-def ports_in_use(names):
+def ports_in_use(names: list[str]) -> Iterator[int]:
     """The ports which the documents, and the script that some of them begin with, name, and another program has."""
     named = {int(next(filter(None, it.groups()))) for name in [*names, PRACTICE] for it in PORT.finditer((ROOT / name).read_text())}
     for port in sorted(named):
@@ -238,7 +241,7 @@ def ports_in_use(names):
                 yield port
 
 
-def missing(names):
+def missing(names: list[str]) -> Iterator[str]:
     """The packages that are missing of those that the blocks of these documents use, or the script that some of them begin with."""
     pasted_text = "".join(it.commands for name in names for it in blocks((ROOT / name).read_text()))
     if PRACTICE in pasted_text:
@@ -253,32 +256,34 @@ def missing(names):
                 yield f"python3-{it}"
 
 
-def document(name):
+def document(name: str) -> str:
     """The name of a document, from the top of the checkout."""
     if not (ROOT / name).is_file():
         raise argparse.ArgumentTypeError(f"there is no document {name} in {ROOT}")
     return name
 
 
-def main():
+def main() -> None:
     options = common.parser(__doc__)
     options.add_argument("--seconds", type=float, default=60, help="most seconds that a block may take (default: 60)")
-    options.add_argument("documents", nargs="*", type=document, default=DOCUMENTS, help=f"from the top of the checkout (default: {' '.join(DOCUMENTS)})")
-    options = options.parse_args()
-    if lacking := list(missing(options.documents)):
+    options.add_argument(
+        "documents", nargs="*", type=document, default=DOCUMENTS, help=f"from the top of the checkout (default: {' '.join(DOCUMENTS)})"
+    )
+    given = options.parse_args()
+    if lacking := list(missing(given.documents)):
         sys.exit(f"missing, and the documents use it: apt-get install {' '.join(lacking)}")
-    if in_use := list(ports_in_use(options.documents)):
+    if in_use := list(ports_in_use(given.documents)):
         sys.exit(f"another program has port {in_use[0]}, which the documents use: stop it first")
     # What goes on after its parent has ended, as nginx does, is then a child of this process and can be stopped.
     ctypes.CDLL(None).prctl(BECOME_SUBREAPER, 1, 0, 0, 0)
     faults = 0
-    for name in options.documents:
-        with tempfile.TemporaryDirectory() as folder:
-            folder = pathlib.Path(folder)
-            fresh_copy(options.program, folder / "office")
+    for name in given.documents:
+        with tempfile.TemporaryDirectory() as room:
+            folder = pathlib.Path(room)
+            fresh_copy(given.program, folder / "office")
             (folder / "installed").mkdir()
-            shutil.copy(options.program, folder / "installed/society")
-            faults += pasted(name, folder / "office", folder / "installed", options.seconds)
+            shutil.copy(given.program, folder / "installed/society")
+            faults += pasted(name, folder / "office", folder / "installed", given.seconds)
     sys.exit(1 if faults else 0)
 
 

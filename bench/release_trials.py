@@ -1,6 +1,6 @@
 #!/usr/bin/python3
-"""Tries what goes by release/: which program bin/society runs and what it says, when bin/release renews it, how the gate compares, and how it
-ends where it is ended.
+"""Tries what goes by release/: which program bin/society runs and what it says, when bin/release renews it, how the gate compares, and how
+it ends where it is ended.
 
 All of it happens in a copy of the checkout, with a toolchain that proves nothing and a program that does nothing. A line tells of each
 trial; the status is 1 where one is not as wanted. It takes some 8 processor seconds.

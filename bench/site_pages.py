@@ -1,10 +1,10 @@
-#!/usr/bin/env python3
+#!/usr/bin/python3
 """Tries the nightly pages (`society-office site`) and statements in headless Chromium, out of a folder, without a server.
 
-The search of works.html is asked what `society-office works` is asked, in offices with letters of many kinds, and has to find the same works
-in the same order; every character has to be looked for as work_search.py has it; and no word that is typed may fetch more than 200,000
-bytes. Each page is looked at with 1,200, 800 and 420 pixels: no word is broken, nothing is wider than the screen, texts can be read, fields and
-tables are named. A work is found, and its page is opened, by keys alone. Ends with status 1 where anything differs.
+The search of works.html is asked what `society-office works` is asked, in offices with letters of many kinds, and has to find the same
+works in the same order; every character has to be looked for as work_search.py has it; and no word that is typed may fetch more than
+200,000 bytes. Each page is looked at with 1,200, 800 and 420 pixels: no word is broken, nothing is wider than the screen, texts can be
+read, fields and tables are named. A work is found, and its page is opened, by keys alone. Ends with status 1 where anything differs.
 
 `--copy FILE` also measures the search over the works of that copy.
 """
@@ -17,23 +17,23 @@ import tempfile
 import unicodedata
 
 import common
-from common import ROOT
+import conftest
+import quarter
+import texts
+from browser import Browser
 from desk_access import ACCESS
-from desk_page import Browser
+from society_office.book.copy import open_copy
+from society_office.printed.site import write_site
+from society_office.works import work_index, work_search
 
-sys.path[:0] = [str(ROOT / "office/tests"), str(ROOT / "office")]
-
-import conftest  # noqa: E402 (the folders of the checkout come first)
-import quarter  # noqa: E402
-import texts  # noqa: E402
-from society_office.book.copy import open_copy  # noqa: E402
-from society_office.printed.site import write_site  # noqa: E402
-from society_office.works import work_index, work_search  # noqa: E402
-
+# What is typed over a large copy.
+TYPED = (
+    "s so song number 7 77 777 7777 77777 w w5 writer at atabc atabc0012345 pb pb0000 pb000000012 i i0 i0000100 example e m music x zz 1"
+)
 WIDTHS, MOST_BYTES, OFFICES, QUESTIONS = (1200, 800, 420), 200_000, 4, 80
 # What the desk's tables and sections have besides, which a browser does not need for a page without scripts.
 ASIDE = ("a table without role", "a cell without role", "no name")
-WRONG = []
+WRONG: list[str] = []
 # Words that stand on two lines though they have neither a hyphen nor a slash, and what is wider than the screen.
 SHAPE = r"""(() => {
   const wrong = [], range = document.createRange();
@@ -54,32 +54,32 @@ SHAPE = r"""(() => {
 FETCHED = "performance.getEntriesByType('resource').reduce((all, it) => all + it.decodedBodySize, 0)"
 
 
-def check(what, is_right, told=""):
+def check(what: str, is_right: bool, told: object = "") -> None:
     if not is_right:
         WRONG.append(what)
         print(f"WRONG {what} {told}", flush=True)
 
 
-def opened(browser, path, rest=""):
+def opened(browser: Browser, path: pathlib.Path, rest: str = "") -> None:
     browser.call("Page.navigate", url="about:blank")
     browser.call("Page.navigate", url=path.resolve().as_uri() + rest)
     browser.wait_for("document.readyState === 'complete' && location.protocol === 'file:'")
 
 
-def made(copy, folder):
+def made(copy: pathlib.Path, folder: pathlib.Path) -> work_index.Index:
     with open_copy(copy) as opened_copy:
         write_site(opened_copy, folder, None, lambda _: None)
         return work_index.Index(work_index.made(opened_copy))
 
 
-def found_by_page(browser, text):
+def found_by_page(browser: Browser, text: str) -> list[tuple[str, str]]:
     """The works that the page finds, as it would show them."""
     asked = f"""find({json.dumps(text)}).then((found) => Promise.all(found.map(async (it) =>
       (await piece(`t${{Math.floor(it / begin.titles)}}`))[it % begin.titles])))"""
     return [(it[3], it[2]) for it in browser.value(asked)]
 
 
-def check_search(browser, program, folder, number):
+def check_search(browser: Browser, program: str, folder: pathlib.Path, number: int) -> None:
     """The page finds in an office what the command finds."""
     office, rng = texts.with_texts(number), random.Random(f"page {number}")
     copy = conftest.made(program, office, folder)
@@ -93,7 +93,7 @@ def check_search(browser, program, folder, number):
         check(f"office {number}: {text[:60]!r}", found == wanted, f"{found[:3]} {wanted[:3]}")
 
 
-def check_characters(browser):
+def check_characters(browser: Browser) -> None:
     """Each character is looked for as work_search.py has it, but for those that only one of both knows."""
     asked = "Array.from({ length: 0x110000 }, (_, k) => k >= 0xd800 && k < 0xe000 ? null : told(String.fromCodePoint(k)))"
     found = browser.value(f"({asked}).map((it) => it === null ? '' : it)")
@@ -103,7 +103,7 @@ def check_characters(browser):
     check("characters", len(named) < 200)
 
 
-def look_at(browser, path, name, pictures):
+def look_at(browser: Browser, path: pathlib.Path, name: str, pictures: pathlib.Path | None) -> None:
     for width in WIDTHS:
         browser.size(width)
         opened(browser, path)
@@ -117,13 +117,19 @@ def look_at(browser, path, name, pictures):
             browser.picture(pictures / f"{name.replace('/', '-')}-{width}.png")
 
 
-def press(browser, key, code=None, text=""):
+def press(browser: Browser, key: str, code: str | None = None, text: str = "") -> None:
     for kind in ("keyDown", "keyUp"):
-        browser.call("Input.dispatchKeyEvent", type=kind, key=key, code=code or key, text=text if kind == "keyDown" else "",
-                     windowsVirtualKeyCode={"Tab": 9, "Enter": 13}.get(key, 0))
+        browser.call(
+            "Input.dispatchKeyEvent",
+            type=kind,
+            key=key,
+            code=code or key,
+            text=text if kind == "keyDown" else "",
+            windowsVirtualKeyCode={"Tab": 9, "Enter": 13}.get(key, 0),
+        )
 
 
-def check_keys(browser, site):
+def check_keys(browser: Browser, site: pathlib.Path) -> None:
     """A work is found and opened without a mouse."""
     browser.size(1200)
     opened(browser, site / "index.html")
@@ -150,7 +156,7 @@ def check_keys(browser, site):
     check("keys: back to what was found", browser.value("document.querySelector('#words').value") == "first anna")
 
 
-def check_quarter(browser, program, folder, pictures):
+def check_quarter(browser: Browser, program: str, folder: pathlib.Path, pictures: pathlib.Path | None) -> None:
     """Each page of an office of a quarter, and a statement."""
     copy = conftest.made(program, quarter.OFFICE, folder)
     made(copy, folder / "site")
@@ -159,30 +165,33 @@ def check_quarter(browser, program, folder, pictures):
     check_keys(browser, folder / "site")
 
 
-def measure(browser, copy, folder):
+def measure(browser: Browser, copy: pathlib.Path, folder: pathlib.Path) -> None:
     """What is fetched for a word, over a large copy; `folder` has its pages where they are made already."""
     with open_copy(copy) as it:
         index = work_index.of(it)[0]
-    most = {}
-    for text in "s so song number 7 77 777 7777 77777 w w5 writer at atabc atabc0012345 pb pb0000 pb000000012 i i0 i0000100 example e m music x zz 1".split():
+    most: dict[str, int] = {}
+    for text in TYPED.split():
         opened(browser, folder / "works.html", f"#{text}")
         browser.wait_for("document.querySelector('#said').textContent.includes('work')", 60)
         most[text] = browser.value(FETCHED)
-        check(f"{text}: as the command", browser.value(f"find({json.dumps(text)}).then((it) => it.length)") == len(index.find(work_search.asked([text]))))
-    worst = max(most, key=most.get)
+        check(
+            f"{text}: as the command",
+            browser.value(f"find({json.dumps(text)}).then((it) => it.length)") == len(index.find(work_search.asked([text]))),
+        )
+    worst = max(most, key=lambda it: most[it])
     print(f"most is fetched for {worst!r}: {most[worst]:,} bytes; {most}")
     check("what is fetched", most[worst] < MOST_BYTES)
 
 
-def main():
+def main() -> None:
     options = common.parser(__doc__)
     options.add_argument("--copy", type=pathlib.Path, help="a large copy")
     options.add_argument("--site", type=pathlib.Path, help="its pages")
     options.add_argument("--pictures", type=pathlib.Path, help="a folder for pictures of the pages")
-    options = options.parse_args()
-    program = os.path.abspath(options.program)
-    if options.pictures:
-        options.pictures.mkdir(exist_ok=True)
+    given = options.parse_args()
+    program = os.path.abspath(given.program)
+    if given.pictures:
+        given.pictures.mkdir(exist_ok=True)
     with tempfile.TemporaryDirectory(ignore_cleanup_errors=True) as name:
         folder = pathlib.Path(name)
         browser = Browser(folder)
@@ -192,9 +201,9 @@ def main():
                 check_search(browser, program, folder / str(number), number)
             check_characters(browser)
             (folder / "quarter").mkdir()
-            check_quarter(browser, program, folder / "quarter", options.pictures)
-            if options.copy:
-                measure(browser, options.copy, options.site)
+            check_quarter(browser, program, folder / "quarter", given.pictures)
+            if given.copy:
+                measure(browser, given.copy, given.site)
             check("errors of the pages", not browser.events, str(browser.events[:2]))
         finally:
             browser.close()

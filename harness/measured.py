@@ -27,17 +27,19 @@ class Run:
     statuses: dict[str, int]  # how many answers of each status
 
 
+# A stream of requests, and how many of them, or of what it has, count.
+Sized = tuple[bytes, int]
 # The last request of each measured stream; the program then waits for more, so that its memory can be read.
 LAST = get("/v1/senders/PB999999999")
 LAST_ANSWER = b'{"front":0,"held":[]}'
 
 
-def used_by(process: subprocess.Popen[bytes]) -> float:
-    """The processor seconds of a process, once it has ended, as it has to, with status 0."""
+def used_by(process: subprocess.Popen[bytes]) -> tuple[float, float]:
+    """The processor seconds of a process and its peak memory in MB, once it has ended, as it has to, with status 0."""
     _, status, used = os.wait4(process.pid, 0)
     process.returncode = os.waitstatus_to_exitcode(status)
     assert process.returncode == 0, process.returncode
-    return float(used.ru_utime + used.ru_stime)
+    return used.ru_utime + used.ru_stime, used.ru_maxrss / 1_000
 
 
 def read_to(source: IO[bytes], end: bytes) -> bytearray:
@@ -63,7 +65,7 @@ def measured(program: Path, stream: bytes) -> Run:
     peak = peak_memory(process.pid)
     into.close()
     counts = collections.Counter(it.decode() for it in STATUS.findall(text))
-    return Run(used_by(process), passed, peak, len(text), dict(sorted(counts.items())))
+    return Run(used_by(process)[0], passed, peak, len(text), dict(sorted(counts.items())))
 
 
 def least_of(program: Path, stream: bytes, runs: int, limit: float = float("inf")) -> Run:
@@ -125,8 +127,8 @@ def opened(program: Path, path: Path) -> tuple[float, float, float]:
         return server.processor, server.seconds, peak_memory(server.process.pid)
 
 
-def audit_seconds(program: Path, path: Path) -> float:
-    """The processor seconds of an audit that finds a file sound."""
+def audited(program: Path, path: Path) -> tuple[float, float]:
+    """The processor seconds of an audit that finds a file sound, and its peak memory in MB."""
     process = subprocess.Popen([program, "audit", "--db", path, *OFFICE], stdout=subprocess.DEVNULL)
     return used_by(process)
 

@@ -140,7 +140,7 @@ def numbers_that_a_sender_chooses(program: pathlib.Path, folder: pathlib.Path) -
     count = 65_000
     chosen = file_of_works(program, folder, chosen_numbers(count, 13))
     others = file_of_works(program, folder, [b"W%011d" % (it * 8_191) for it in range(1, count + 1)])
-    pairs = ((measured.audit_seconds(program, chosen), measured.audit_seconds(program, others)) for _ in range(10))
+    pairs = ((measured.audited(program, chosen)[0], measured.audited(program, others)[0]) for _ in range(10))
     told("as soon as others", any(first <= 1.3 * second for first, second in pairs), True)
 
 
