@@ -73,7 +73,8 @@ def header_hint(body: bytes, first: list[str]) -> str:
     if [it for it in first if it] == HEADER:
         return "empty columns stand beside it: delete them in the spreadsheet"
     if set(HEADER) <= set(words):
-        return "keep these three columns alone, in this order"
+        titled = "; works are found by a column title with `society-office unknown COPY --titles FILE`" if "title" in words else ""
+        return f"keep these three columns alone, in this order{titled}"
     if first and ISRC.fullmatch(first[0]):
         return "the first row is data: put isrc,plays,seconds above it"
     return ""

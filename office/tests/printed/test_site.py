@@ -14,7 +14,7 @@ from society_office.printed.site import Site
 
 COMMANDS = (
     "adjust amend balances check close compare decisions dues explain file health ledger members parties pay propose rebuild rehearse "
-    "resend returned site statement unclaimed void why works"
+    "resend returned site statement unclaimed unknown void why works"
 )
 CAUSES = {"none": "nobody", "plays": "nobody", "share": "share", "conflict": "conflict"}
 
