@@ -57,7 +57,7 @@ def list_unknown(
 ) -> None:
     """What stations have played that no file names: by station and by the units that went to nobody for it, with what may be meant.
 
-    Likely are registered recordings with two characters exchanged, of another year or another registrant, or with one character another
+    Likely are registered recordings with two characters exchanged, of another year or another registrant, or with one digit another
     one; and with --titles works by the title. A CSV of one station can be sent back to it. Void returns are no plays.
     """
     with open_whole(copy) as opened:

@@ -32,7 +32,7 @@ def lines(found: Sequence[Unknown]) -> Iterator[str]:
             yield f"  {it.isrc}{title}: {counted(it.units, 'unit')}, {played}; {names_text(it.returns)}"
             yield from (f"    {candidate_text(one)}" for one in it.candidates)
             if it.more:
-                yield f"    and {it.more:,} more that differ by one character"
+                yield f"    and {it.more:,} more that differ by a digit"
         if len(own) > MOST:
             yield f"  and {len(own) - MOST:,} more: `--format csv` has every one of them"
         yield ""

@@ -2,7 +2,7 @@
 
 An ISRC has a registrant (two letters of a country and three more), two digits of a year, and five of a designation. Likely are, in this
 order: two characters that stand beside each other exchanged; another year, or another registrant, with all else the same; and one
-character another one. Each is likely by the first of these that it is.
+digit another one. Each is likely by the first of these that it is.
 """
 
 import collections
@@ -10,13 +10,12 @@ from collections.abc import Iterable, Iterator
 from typing import NamedTuple
 
 REGISTRANT, YEAR = 5, 7
-EXCHANGED, OTHER_YEAR, OTHER_REGISTRANT, OTHER_CHARACTER = (
+EXCHANGED, OTHER_YEAR, OTHER_REGISTRANT, OTHER_DIGIT = (
     "two characters exchanged",
     "another year",
     "another registrant",
-    "one character another one",
+    "one digit another one",
 )
-LETTERS, DIGITS = "ABCDEFGHIJKLMNOPQRSTUVWXYZ", "0123456789"
 
 
 class Likely(NamedTuple):
@@ -51,6 +50,6 @@ class Registered:
         for year in range(100):
             yield f"{isrc[:REGISTRANT]}{year:02d}{isrc[YEAR:]}", OTHER_YEAR
         yield from ((it, OTHER_REGISTRANT) for it in self.by_end.get(isrc[REGISTRANT:], ()))
-        for k in range(len(isrc)):
-            for it in (LETTERS + DIGITS) if k < REGISTRANT else DIGITS:
-                yield isrc[:k] + it + isrc[k + 1 :], OTHER_CHARACTER
+        # (with another character before the year it is of another registrant)
+        for k in range(REGISTRANT, len(isrc)):
+            yield from ((isrc[:k] + it + isrc[k + 1 :], OTHER_DIGIT) for it in "0123456789")

@@ -18,8 +18,8 @@ U = "ATABC2600001"
         ("ATABC9900001", "another year"),
         ("DEXYZ2600001", "another registrant"),
         ("ATABD2600001", "another registrant"),
-        ("ATABC2600007", "one character another one"),
-        ("ATABC2690001", "one character another one"),
+        ("ATABC2600007", "one digit another one"),
+        ("ATABC2690001", "one digit another one"),
     ],
 )
 def test_what_may_be_meant(isrc: str, how: str) -> None:
