@@ -30,7 +30,7 @@ AT_ONCE = (
     (("office/bench",), TESTS),
     ((".ci", "harness", "tools", "trials", "bench"), ["harness", "trials", "bench", *TESTS]),
 )
-FOLDERS = (".ci", "bench", "bin", "examples", "harness", "tools", "trials")
+FOLDERS = (".ci", "bench", "bin", "debian", "examples", "harness", "office", "tools", "trials")
 
 
 def sources(folder: str) -> Iterator[str]:
@@ -64,6 +64,8 @@ def is_in(path: str, folder: str) -> bool:
 
 def typed(python: list[str]) -> Iterator[str]:
     """What mypy says of files, as strictly as it can be."""
+    known = [it for folders, _ in AT_ONCE for it in folders]
+    yield from (f"{it}: stands in no folder that mypy reads" for it in python if not any(is_in(it, folder) for folder in known))
     for number, (folders, paths) in enumerate(AT_ONCE):
         if given := [it for it in python if any(is_in(it, folder) for folder in folders)]:
             yield from told_of_types(given, paths, str(number))

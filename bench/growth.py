@@ -99,8 +99,8 @@ STARTS: dict[str, tuple[Callable[[int], Iterator[tuple[str, int, bytes]]], int]]
 
 
 def exponent(sizes: Sequence[int], seconds: Sequence[float]) -> str:
-    """How the seconds grow with the sizes; none where the lesser is too short to tell."""
-    if seconds[0] < 0.02:
+    """How the seconds grow with the sizes; none where the lesser is too short to tell, or as great as the other."""
+    if seconds[0] < 0.02 or sizes[0] == sizes[1]:
         return "-"
     return f"{math.log(seconds[1] / seconds[0]) / math.log(sizes[1] / sizes[0]):.2f}"
 

@@ -88,9 +88,10 @@ def free_port() -> int:
         return int(it.getsockname()[1])
 
 
-def serve_words(database: Path, port: int, connections: int = 1, *others: str, office: Sequence[str] = OFFICE) -> list[str]:
-    """The arguments of an office that serves a file."""
-    return ["serve", "--db", str(database), "--port", str(port), "--connections", str(connections), *others, *office]
+def serve_words(database: Path, port: int, connections: int | None = 1, *others: str, office: Sequence[str] = OFFICE) -> list[str]:
+    """The arguments of an office that serves a file; how many connections it serves stands among the others, where that is None."""
+    count = [] if connections is None else ["--connections", str(connections)]
+    return ["serve", "--db", str(database), "--port", str(port), *count, *others, *office]
 
 
 def connected(port: int, seconds: float = LIMIT) -> socket.socket:
@@ -141,7 +142,7 @@ class Server:
         self,
         program: Path,
         database: Path,
-        connections: int = 1,
+        connections: int | None = 1,
         *others: str,
         port: int | None = None,
         office: Sequence[str] = OFFICE,

@@ -28,14 +28,15 @@ sys.path[:0] = [str(OFFICE), str(OFFICE / "tests"), str(OFFICE / "tests/payments
 
 import pytest  # noqa: E402 (the folders of the checkout come first)
 import sizes  # noqa: E402
-from command import run  # noqa: E402
+from command import Word, run  # noqa: E402
 from conftest import made, program_under_test  # noqa: E402
 from quarter import OFFICE as QUARTER  # noqa: E402
 from society_office.book.copy import open_copy  # noqa: E402
 from society_office.commands.cli import main as command  # noqa: E402
 from society_office.decided import decisions  # noqa: E402
 from society_office.payments import home  # noqa: E402
-from test_payments import ROWS, HEADER, begun  # noqa: E402
+from test_members import HEADER  # noqa: E402
+from test_payments import ROWS, begun  # noqa: E402
 from test_random_payments import live  # noqa: E402
 from treasury import Treasurer, iban  # noqa: E402
 
@@ -61,7 +62,7 @@ def refused_by_schema(folder: pathlib.Path) -> str:
     files = sorted(folder.glob("payment-*.xml"))
     if not files or not shutil.which("xmllint"):
         return ""
-    words = ["xmllint", "--nonet", "--noout", "--schema", OFFICE / "tests/pain.xsd", *files]
+    words: list[Word] = ["xmllint", "--nonet", "--noout", "--schema", OFFICE / "tests/pain.xsd", *files]
     done = subprocess.run(words, capture_output=True, text=True, check=False)
     return done.stderr if done.returncode else ""
 
@@ -72,10 +73,10 @@ def refused_by_hledger(it: Treasurer) -> str:
         return ""
     file = it.folder / "journal"
     file.write_text(run("ledger", "--format", "hledger"))
-    done = subprocess.run(["hledger", "-f", file, "check"], capture_output=True, text=True, check=False)
+    done = subprocess.run(["hledger", "-f", str(file), "check"], capture_output=True, text=True, check=False)
     if done.returncode:
         return done.stderr
-    words = ["hledger", "-f", file, "balance", "--flat", "-N", "-E", "Members"]
+    words = ["hledger", "-f", str(file), "balance", "--flat", "-N", "-E", "Members"]
     listed = subprocess.run(words, capture_output=True, text=True, check=True).stdout
     found = {cells[1].removeprefix("Members:"): int(cells[0]) for line in listed.splitlines() if (cells := line.split())}
     wanted = {key: it.book.owed(key) for key in it.book.members()}

@@ -163,15 +163,15 @@ def main() -> None:
     options.add_argument("--amended", type=int, default=10, help="pools that are amended (default: 10)")
     options.add_argument("--file", type=pathlib.Path, help="keep the office in this file; it is used again where it is there")
     options.add_argument("--all", action="store_true", help="also a rebuilt office, and the statements of everybody")
-    options = options.parse_args()
-    if options.works > EVERY * plays.MOST_ROWS:
+    given = options.parse_args()
+    if given.works > EVERY * plays.MOST_ROWS:
         sys.exit(f"a return has {plays.MOST_ROWS:,} rows at most: measure {EVERY * plays.MOST_ROWS:,} works, or fewer")
     with tempfile.TemporaryDirectory() as folder:
-        path = options.file or pathlib.Path(folder) / "large-office-of-a-hundred-thousand.db"
+        path = given.file or pathlib.Path(folder) / "large-office-of-a-hundred-thousand.db"
         if not path.exists():
-            make(path, options.works, options.pools, options.senders)
-        print(f"{options.works:,} works, {options.pools:,} pools: {path.stat().st_size / 1e6:,.0f} MB")
-        copy, some = str(path.resolve()), min(3, options.senders - 1)
+            make(path, given.works, given.pools, given.senders)
+        print(f"{given.works:,} works, {given.pools:,} pools: {os.path.getsize(path) / 1e6:,.0f} MB")
+        copy, some = str(path.resolve()), min(3, given.senders - 1)
         decisions.begin(pathlib.Path(folder) / "decided")
         os.environ.setdefault(decisions.VARIABLE, f"{folder}/decided")
         measured("statement", copy, f"I{writer(17)}", "--format", "csv")
@@ -181,7 +181,7 @@ def main() -> None:
             measured("statement", copy, key)
             measured("statement", copy, key, "--format", "csv", "--output", f"{folder}/{key}.csv")
         measured("statement", copy, "UNCLAIMED", "--format", "html", "--output", f"{folder}/unclaimed.html")
-        measured("explain", copy, f"I{writer(17)}", "--pool", "7" if options.pools >= 7 else "1", "--format", "csv")
+        measured("explain", copy, f"I{writer(17)}", "--pool", "7" if given.pools >= 7 else "1", "--format", "csv")
         measured("balances", copy, "--output", f"{folder}/balances.csv")
         measured("parties", copy, "--output", f"{folder}/parties.csv")
         for words in (["song", "77"], ["song", "77"], ["song", "--most", "1000", "--format", "json"]):
@@ -192,9 +192,9 @@ def main() -> None:
         measured("why", copy, sender_of(some))
         measured("site", copy, "--into", f"{folder}/site")
         measured("dues", copy)
-        amend(path, then := pathlib.Path(folder) / "large-office-with-amendments.db", pathlib.Path(folder) / "amended", options.amended)
+        amend(path, then := pathlib.Path(folder) / "large-office-with-amendments.db", pathlib.Path(folder) / "amended", given.amended)
         measured("dues", f"{then}", "--next", f"{folder}/next", "--decisions", f"{folder}/amended")
-        if options.all:
+        if given.all:
             measured("rebuild", copy)
             measured("compare", copy, copy)
             measured("statement", copy, "--all", "--into", f"{folder}/statements")

@@ -8,8 +8,10 @@ import json
 import random
 import sys
 from collections import Counter
+from collections.abc import Callable, Sequence
 
-from ledger import EMPTY, NOBODY, Due, Ledger, Order, Return, Units, Work, is_own, opened, order_text, read
+from ledger import EMPTY, Due, Ledger, Order, Return, Units, Work, is_own, opened, order_text, read
+from reckoning import NOBODY
 from society_office.basics.errors import OfficeError
 from society_office.book.copy import Copy
 from society_office.book.own_returns import ROWLESS, amends
@@ -111,7 +113,7 @@ class Chain:
         kept = self.copies[-1] if self.rng.random() < 0.7 else self.rng.choice(self.copies[-4:])
         return Copy(EMPTY, opened(kept))
 
-    def ask(self, asked: list[Asked]) -> list[list[Row]]:
+    def ask(self, asked: Sequence[Asked]) -> list[list[Row]]:
         found = []
         for it in asked:
             for one in it.parts:
@@ -249,11 +251,17 @@ class Chain:
 
     def step(self) -> None:
         rng = self.rng
-        action = rng.choices(
-            [self.send_file, self.send_plays, self.close_plays, self.change_void, self.write_amendment, self.take_line_out,
-             self.write_make_up, self.send_some],
-            [3, 3, 4, 1, 3, 0.7, 5, 9],
-        )[0]
+        actions: list[tuple[Callable[[], object], float]] = [
+            (self.send_file, 3),
+            (self.send_plays, 3),
+            (self.close_plays, 4),
+            (self.change_void, 1),
+            (self.write_amendment, 3),
+            (self.take_line_out, 0.7),
+            (self.write_make_up, 5),
+            (self.send_some, 9),
+        ]
+        action = rng.choices([it for it, _ in actions], [weight for _, weight in actions])[0]
         try:
             action()
         except OfficeError as error:

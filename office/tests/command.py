@@ -1,9 +1,13 @@
 """The command `society-office`, run in the process of the tests."""
 
+import os
 import re
 
 from click.testing import CliRunner
 from society_office.commands.cli import main
+
+# A word of a command that is started.
+Word = str | os.PathLike[str]
 
 
 def run(*words: object, status: int = 0, out: bool = False) -> str:

@@ -15,15 +15,18 @@ import pytest
 HERE = pathlib.Path(__file__).resolve().parent
 ROOT = HERE.parent.parent
 # (a test may take what another one has, of any folder)
-sys.path[:0] = [str(HERE), str(HERE.parent), *sorted(str(it) for it in HERE.iterdir() if it.is_dir() and it.name != "__pycache__")]
+FOLDERS = sorted(it for it in HERE.iterdir() if it.is_dir() and it.name != "__pycache__")
+sys.path[:0] = [str(it) for it in (HERE, HERE.parent, ROOT / "harness", *FOLDERS)]
 
 import quarter  # noqa: E402 (the folder of the tests comes first)
+import served as harness  # noqa: E402
 from office_value import Office  # noqa: E402
 from society_office.book import book_log  # noqa: E402
 from society_office.decided import decisions  # noqa: E402
 from society_office.offices import book_files  # noqa: E402
 
-OFFICE = ["--society", "900", "--territory", "40", "--name", "EXAMPLE SOCIETY"]
+
+OFFICE = harness.OFFICE
 TAKEN = {200, 201, 202}
 
 
@@ -32,10 +35,9 @@ def program_under_test() -> str:
     if found := os.environ.get("SOCIETY_PROGRAM"):
         # (it is run from other folders too)
         return os.path.abspath(found)
-    asked = subprocess.run([ROOT / "bin/program"], stdout=subprocess.PIPE, text=True, check=False)
-    if not (built := asked.stdout.strip()):
+    if not (built := harness.built_program()):
         pytest.exit("no program is built of these sources: build it by bin/society --help, or name one by $SOCIETY_PROGRAM", 2)
-    return built
+    return str(built)
 
 
 def knows_credit(program: str) -> bool:
@@ -51,7 +53,7 @@ def program(tmp_path_factory: pytest.TempPathFactory) -> Iterator[str]:
     if not knows_credit(found):
         script = tmp_path_factory.mktemp("program") / "society"
         by_hand = f'exec {sys.executable} {HERE / "credit_by_hand.py"} "$@"'
-        script.write_text(f"#!/bin/sh\n[ \"$1\" = credit ] || exec {found} \"$@\"\n{by_hand}\n")
+        script.write_text(f'#!/bin/sh\n[ "$1" = credit ] || exec {found} "$@"\n{by_hand}\n')
         script.chmod(0o755)
         found = str(script)
     with pytest.MonkeyPatch.context() as patch:
@@ -64,40 +66,24 @@ def running(
     program: str, database: pathlib.Path, port: int, *words: str, office: Sequence[str] = OFFICE
 ) -> Iterator[subprocess.Popen[bytes]]:
     """An office over a file, which listens; whatever fails meanwhile, it is ended with the `with`."""
-    options = ["--db", str(database), "--port", str(port), *office, *words]
-    process = subprocess.Popen([program, "serve", *options], stdout=subprocess.PIPE)
-    try:
-        assert process.stdout and process.stdout.readline() == b"listening\n"
-        yield process
-    finally:
-        process.kill()
-        process.wait()
-        if process.stdout:
-            process.stdout.close()
+    with harness.Server(program, database, None, *words, port=port, office=office) as server:
+        assert server.first == harness.LISTENING
+        yield server.process
 
 
 @contextlib.contextmanager
 def served(program: str, database: pathlib.Path) -> Iterator[http.client.HTTPConnection]:
     """An office over a file, with one connection to it; the office ends with the connection."""
-    from society_office.offices.program import free_port
-
-    port = free_port()
-    with running(program, database, port, "--connections", "1") as process:
-        connection = http.client.HTTPConnection("127.0.0.1", port, timeout=300)
-        connection.connect()
-        try:
+    with running(program, database, port := harness.free_port(), "--connections", "1") as process:
+        with contextlib.closing(harness.asked_at(port, 300)) as connection:
+            connection.connect()
             yield connection
-        finally:
-            connection.close()
         process.wait(60)
 
 
 def put(connection: http.client.HTTPConnection, path: str, body: bytes) -> int:
     """Sends a body; answers the status."""
-    connection.request("PUT", f"/v1{path}", body=body)
-    answer = connection.getresponse()
-    answer.read()
-    return answer.status
+    return harness.ask(connection, "PUT", f"/v1{path}", body)[0]
 
 
 def made(program: str, office: Office, folder: pathlib.Path) -> pathlib.Path:

@@ -113,7 +113,7 @@ class Book:
         for key in sorted(map(tuple, order["returns"])):
             if key not in self.returns:
                 raise Refused(f"no return {key[0]} {key[1]}")
-        points, owners, amount = self.points(map(tuple, order["returns"])), self.owners(cut), order["amount"]
+        points, owners, amount = self.points((reporter, number) for reporter, number in order["returns"]), self.owners(cut), order["amount"]
         if not points and "isrcs" not in order:
             yield ["-", 0, amount, 0, "", "", "", NOBODY, "", amount]
         whole, wanted = sum(points.values()), order.get("isrcs")

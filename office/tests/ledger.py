@@ -148,7 +148,7 @@ class Ledger:
         if len(found) != 1:
             return None
         [(sender, work)] = found
-        weights = [(it[0], it[1 if right == "PR" else 2]) for it in work.holders]
+        weights = [(it[0], it[1] if right == "PR" else it[2]) for it in work.holders]
         return sender, work.number, [*weights, (NOBODY, max(10_000, sum(it[1] for it in weights)) - sum(it[1] for it in weights))]
 
     def rows(self, order: Order, isrcs: list[str] | None = None) -> list[tuple[str, int, int, int, str, str, int, str, int, int]]:

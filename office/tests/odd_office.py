@@ -1,13 +1,14 @@
 """What stands before an office and answers oddly: it hangs, breaks off, or says something else than the office, which may have taken it."""
 
 import contextlib
-import http.client
 import http.server
 import socket
 import threading
 import time
 from collections.abc import Iterator
 from typing import Any
+
+from served import ask_once
 
 # What can become of something that is put: the office gets it not, or with `after` gets it and its answer is lost.
 MODES = ("hangs", "reset", "garbage", "page", "404", "409", "503")
@@ -24,12 +25,7 @@ class Odd(http.server.BaseHTTPRequestHandler):
     def handed_on(self) -> tuple[int, bytes]:
         """What the office answers."""
         body = self.rfile.read(int(self.headers.get("Content-Length", 0)))
-        connection = http.client.HTTPConnection(type(self).office.removeprefix("http://"), timeout=60)
-        connection.request(self.command, self.path, body=body if self.command == "PUT" else None)
-        answer = connection.getresponse()
-        found = answer.status, answer.read()
-        connection.close()
-        return found
+        return ask_once(type(self).office, self.command, self.path, body if self.command == "PUT" else None, seconds=60)
 
     def answer(self, status: int, body: bytes) -> None:
         """Answers."""

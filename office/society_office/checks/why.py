@@ -5,8 +5,7 @@ from collections.abc import Iterator
 
 from society_office.book.copy import Copy
 from society_office.checks import faults
-from society_office.checks.checking import detail, explained
-
+from society_office.checks.checking_output import detail, explained
 from society_office.checks.work_faults import UTF_8, CheckedWork, checked_work, first_warnings, warned
 from society_office.formats.numbering import Line, as_sent, counted, ranges, segment_text
 from society_office.works.records import sender_names, shown_number, transactions

@@ -18,7 +18,7 @@ from society_office.basics.errors import OfficeError
 from society_office.basics.terminal import doing, drop_output, prepare_streams, say
 from society_office.book.copy import beside
 from society_office.book.soundness import need_sound
-from society_office.checks import checking, why, why_output
+from society_office.checks import checking, checking_output, why, why_output
 from society_office.closings.orders import LAST_POOL
 from society_office.closings.pool_ties import ties_of
 from society_office.commands import account_commands, closing_commands, decision_commands, dues_commands, money_commands, standby_commands
@@ -236,9 +236,9 @@ def check(
     with asked_office(copy, address, access, program, (society, territory, name)) as (office, number, land):
         found = checking.check(office, number, land, read, reporter or station or checking.TRIAL_REPORTER, keeps=bool(address))
     if as_json_text:
-        say(json.dumps(checking.as_data(found), ensure_ascii=False, indent=1))
+        say(json.dumps(checking_output.as_data(found), ensure_ascii=False, indent=1))
     else:
-        for line in checking.brief_lines(found) if brief else checking.full_lines(found):
+        for line in checking_output.brief_lines(found) if brief else checking_output.full_lines(found):
             say(line)
     if not found.is_clean:
         sys.exit(WRONG)

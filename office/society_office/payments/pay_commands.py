@@ -177,9 +177,7 @@ def again(number: int, into: pathlib.Path, folder: pathlib.Path | None) -> None:
 @click.option("--day", type=DAY, metavar="DAY", help="With --batch: the day on which it was paid (default: today).")
 @WHY
 @DECISIONS
-def confirm(
-    table: pathlib.Path | None, number: int | None, day: datetime.datetime | None, why: str, folder: pathlib.Path | None
-) -> None:
+def confirm(table: pathlib.Path | None, number: int | None, day: datetime.datetime | None, why: str, folder: pathlib.Path | None) -> None:
     """Writes into the ledger what the bank has paid: by its LIST, a notification (camt.054) or a CSV with reference,amount,day,why; or all
     of a batch. What the ledger has already is left out, so that a list may come twice."""
     if (table is None) == (number is None) or (day and number is None):
@@ -236,9 +234,7 @@ def answer(desk: Desk, found: answers.Answers, what: str, why: str) -> None:
 @click.option("--program", metavar="FILE", help=PROGRAM_HELP)
 @WHY
 @DECISIONS
-def adjust(
-    member: str, units: int, copy: pathlib.Path | None, program: str | None, why: str, folder: pathlib.Path | None
-) -> None:
+def adjust(member: str, units: int, copy: pathlib.Path | None, program: str | None, why: str, folder: pathlib.Path | None) -> None:
     """Writes a single line into the ledger: UNITS more that MEMBER is owed, or with a minus less, and why.
 
     An advance that was paid by hand is less; pools set it off by themselves, since nobody is paid who owes the office. Of UNCLAIMED no more

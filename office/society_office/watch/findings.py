@@ -25,9 +25,13 @@ def worst(findings: list[Finding]) -> int:
 
 def as_json(findings: list[Finding]) -> str:
     """The findings as JSON."""
-    return json.dumps(
-        {"state": STATES[worst(findings)], "findings": [dataclasses.asdict(it) | {"state": STATES[it.state]} for it in findings]}, indent=1
-    ) + "\n"
+    return (
+        json.dumps(
+            {"state": STATES[worst(findings)], "findings": [dataclasses.asdict(it) | {"state": STATES[it.state]} for it in findings]},
+            indent=1,
+        )
+        + "\n"
+    )
 
 
 def as_metrics(findings: list[Finding]) -> str:

@@ -82,7 +82,7 @@ def test_one_that_was_taken_away_before_it_had_its_lock_is_made_anew(temporary: 
             if len(begun) == 1:
                 throw_away.clear(temporary)
 
-    monkeypatch.setattr(throw_away.tempfile, "TemporaryDirectory", Folder)
+    monkeypatch.setattr("society_office.basics.throw_away.tempfile.TemporaryDirectory", Folder)
     with room() as made:
         assert [str(made)] == begun[1:] and list(temporary.iterdir()) == [made]
     assert list(temporary.iterdir()) == []

@@ -12,14 +12,14 @@ from collections.abc import Callable
 
 import pytest
 import quarter
-from command import run
+from command import Word, run
 from conftest import OFFICE, ROOT, put, running, served
 from society_office.basics.errors import OfficeError
 from society_office.book import book_log, page_sums
 from society_office.book.copy import has_frames, open_copy
 from society_office.offices import book_files
 from society_office.offices.program import Office, free_port
-from test_backup import backed_up
+from scripts import backed_up
 
 DAMAGED = (1, "society: database damaged\n")
 PAGE = 4_096
@@ -199,7 +199,7 @@ def test_commands_say_the_same_of_both(summed: pathlib.Path, plain: pathlib.Path
     monkeypatch.setenv("SOCIETY_PROGRAM", program)
     for words in (
         ["statement", "{}", "UNCLAIMED"],
-        ["amend", "{}", 1, "--amount", 2_000_003],
+        ["amend", "{}", "1", "--amount", "2000003"],
         ["rebuild", "{}"],
         ["why", "{}", quarter.ALPHA],
     ):
@@ -220,7 +220,7 @@ def test_an_older_file_gets_sums(plain: pathlib.Path, tmp_path: pathlib.Path, pr
     assert (done.returncode, done.stderr) == (0, "") and database.read_bytes() == before
     [made] = copies.glob("*.db")
     assert page_sums.has_sums(made) and "are the same" in run("compare", plain, made) and sorted(os.listdir(copies)) == [".lock", made.name]
-    words = [ROOT / "debian/bin/society-restore", "--from", made, "--db", database, "--service", "none", "--program", program]
+    words: list[Word] = [ROOT / "debian/bin/society-restore", "--from", made, "--db", database, "--service", "none", "--program", program]
     assert subprocess.run(words, check=False).returncode == 0
     assert page_sums.has_sums(database) and page_sums.wrong_pages(database) == [] and audited(program, database) == (0, "sound\n")
     with served(program, database) as connection:

@@ -13,12 +13,13 @@ import mutants
 import pytest
 import quarter
 import reckoning
-from command import run
+from command import Word, run
 from conftest import ROOT, made
 from cwr import file
 from office_value import File, Office, Step
 from society_office.book.copy import open_copy
 from society_office.checks import checking
+from society_office.checks.cwr_faults import checked
 from society_office.checks.why import story
 from society_office.formats.plays import points
 from society_office.offices.program import ReplayOffice
@@ -162,7 +163,7 @@ def bodies() -> list[bytes]:
 def tried(office: ReplayOffice, body: bytes, number: int) -> checking.Sent:
     """A file that was tried under a number, and read by ourselves."""
     file = checking.Sent(f"{number}.cwr", body, number, "", f"transmissions/{number}")
-    file.own = checking.checked(body, SENDER, 40)
+    file.own = checked(body, SENDER, 40)
     checking.take_answer(file, office.ask("PUT", f"/v1/senders/{SENDER}/{file.path}", body))
     if file.state == "applied":
         checking.ask_verdicts(office, SENDER, file)
@@ -177,8 +178,8 @@ def test_our_own_reading_is_the_programs(program: str) -> None:
         file = tried(office, body.replace(b"W1      ", b"W%-7d" % number, 1), number + 1)
         number += file.state == "applied"
         assert not file.differs, (body, file)
-    for row, body in enumerate(ROWS):
-        played = checking.Sent("it.csv", body.encode())
+    for row, text in enumerate(ROWS):
+        played = checking.Sent("it.csv", text.encode())
         checking.check_return(office, "/v1/returns/RADIO1", row + 1, played)
         assert not played.differs, (body, played)
     office.close()
@@ -322,7 +323,7 @@ def test_a_revision_that_is_rejected_in_the_file_of_its_work(tmp_path: pathlib.P
 
 def dry_run(environment: dict[str, str], *words: object) -> subprocess.CompletedProcess[str]:
     """A run of examples/dryrun over examples/first.cwr."""
-    command = [sys.executable, ROOT / "examples/dryrun", *words, ROOT / "examples/first.cwr"]
+    command: list[Word] = [sys.executable, ROOT / "examples/dryrun", *map(str, words), ROOT / "examples/first.cwr"]
     return subprocess.run(command, env={**os.environ, **environment}, capture_output=True, text=True, check=False)
 
 

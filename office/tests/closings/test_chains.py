@@ -1,6 +1,6 @@
 """Random chains in memory, in which the laws of what is due are asserted after each step, and chains of very many senders, rows and units.
 
-office/bench/chains.py runs thousands of them.
+office/bench/random_chains.py runs thousands of them.
 """
 
 import dataclasses
@@ -12,6 +12,7 @@ from collections import Counter
 import chains
 import pytest
 from chains import Chain
+from command import Word
 from conftest import HERE
 from ledger import EMPTY, Due, Order, Work, opened
 from society_office.basics.errors import OfficeError
@@ -49,7 +50,7 @@ def test_chains_do_what_they_are_to_try() -> None:
 def test_the_same_book_and_list_give_the_same_bytes() -> None:
     def letters(seed: int) -> str:
         environment = {**os.environ, "PYTHONHASHSEED": str(seed), "PYTHONPATH": f"{HERE.parent}:{HERE}"}
-        command = [sys.executable, HERE / "chains.py", "0", "12"]
+        command: list[Word] = [sys.executable, HERE / "chains.py", "0", "12"]
         return subprocess.run(command, env=environment, capture_output=True, text=True, check=True).stdout
 
     assert letters(1) == letters(2) != ""

@@ -1,6 +1,6 @@
 """An order closed at an office: one pool, whatever breaks off and whatever answers; nothing over a copy that is not of now."""
 
-import http.client
+import contextlib
 import json
 import pathlib
 import shutil
@@ -10,8 +10,9 @@ import pytest
 import quarter
 from click.testing import CliRunner
 from command import run
-from conftest import further, put, running
+from conftest import further, running
 from odd_office import odd
+from served import ask, asked_at, ask_once
 from society_office.basics.errors import OfficeError
 from society_office.book.copy import open_copy
 from society_office.book.page_sums import changed
@@ -20,7 +21,6 @@ from society_office.closings.orders import free_pool
 from society_office.commands import closing_commands
 from society_office.commands.cli import main
 from society_office.decided import decisions, journal
-from society_office.offices import answered
 from society_office.offices.program import free_port
 
 AMOUNT = 70_001
@@ -61,15 +61,8 @@ def sure(copy: pathlib.Path, address: str, order: pathlib.Path, program: str, *m
 
 def pools_at(address: str) -> list[int]:
     """The pools that an office has closed, of the first thirty and the last ones."""
-    connection = http.client.HTTPConnection(address.removeprefix("http://"), timeout=60)
-    found = []
-    for pool in (*range(1, 31), *range(99_990, 100_000)):
-        connection.request("GET", f"/v1/pools/{pool}")
-        answer = connection.getresponse()
-        answer.read()
-        found += [pool] if answer.status == 200 else []
-    connection.close()
-    return found
+    with contextlib.closing(asked_at(address, 60)) as it:
+        return [pool for pool in (*range(1, 31), *range(99_990, 100_000)) if ask(it, "GET", f"/v1/pools/{pool}")[0] == 200]
 
 
 def told(folder: pathlib.Path) -> list[str]:
@@ -107,9 +100,7 @@ def test_nothing_is_sent_without_the_amount(
 
 def sent(address: str, path: str, body: bytes) -> None:
     """Puts something at an office."""
-    connection = http.client.HTTPConnection(address.removeprefix("http://"), timeout=60)
-    assert put(connection, path, body) in (200, 201)
-    connection.close()
+    assert ask_once(address, "PUT", f"/v1{path}", body, seconds=60)[0] in (200, 201)
 
 
 @pytest.mark.parametrize(
@@ -323,7 +314,8 @@ def test_what_was_begun_goes_to_no_other_book(
     for society, what in (("901", "it is the office of another society, or none"), ("900", f"{copy} has what the office has not: ")):
         office = ["--society", society, "--territory", "40", "--name", "EXAMPLE SOCIETY"]
         with running(program, tmp_path / f"{society}.db", port, "--connections", "1000", office=office):
-            for given in ([], ["--give-up", "--why", "x"][: 3 * (society == "901")]):
+            giving_up = ("--give-up", "--why", "x")
+            for given in ((), giving_up[: 3 * (society == "901")]):
                 assert what in called(words(copy, f"http://127.0.0.1:{port}", order, program, *given), status=1)
     assert [it.partition(":")[0] for it in told(decided)] == ["closing pool 6"]
 
@@ -356,29 +348,13 @@ def test_a_page_is_no_answer_to_a_return_of_the_office(
     assert "closed pool 99998" in called(words(copy, address, tmp_path / "99998.json", program))
 
 
-def test_another_order_under_its_number(
-    copy: pathlib.Path, address: str, order: pathlib.Path, program: str, decided: pathlib.Path
-) -> None:
+def test_another_order_under_its_number(copy: pathlib.Path, address: str, order: pathlib.Path, program: str, decided: pathlib.Path) -> None:
     """Where somebody else has closed another pool under the number meanwhile, what was begun is given up."""
     with odd(address, "reset") as other:
         called(sure(copy, other, order, program), status=1)
     sent(address, "/pools/6", b'{"amount":5,"cut":[],"returns":[]}')
     assert "pool 6 is not closed: another order stands under this number" in called(words(copy, address, order, program), status=1)
     assert [it.partition(":")[0] for it in told(decided)] == ["closing pool 6", "gave up pool 6"]
-
-
-def test_who_has_asked_for_an_order_is_who_has_asked_last(decided: pathlib.Path, monkeypatch: pytest.MonkeyPatch) -> None:
-    it = closing.Plan(b'{"amount":5,"cut":[],"returns":[]}', {"amount": 5}, 6)
-    closing.begin(decisions.read(decided), it, "why")
-    # (a line that begins a pool has its sum too)
-    assert closing.asked_by(decisions.read(decided).journal, it.body) is None
-    for name, file in (("anna", "an order, the second.json"), ("bert", "order.json")):
-        monkeypatch.setattr(journal, "who", lambda name=name: name)
-        closing.ask_for(decisions.read(decided), it, pathlib.Path(file), "why")
-        found = closing.asked_by(decisions.read(decided).journal, it.body)
-        assert found and (found.who, list(found.sums.values())) == (name, [journal.sum_of(it.body)])
-    monkeypatch.setattr(closing, "who", lambda: "anna")
-    assert closing.need_second(decisions.read(decided).journal, it.body).who == "bert"
 
 
 def test_an_order_that_was_given_up_gets_a_number_anew(copy: pathlib.Path, order: pathlib.Path, decided: pathlib.Path) -> None:
@@ -395,38 +371,3 @@ def test_an_order_that_was_given_up_gets_a_number_anew(copy: pathlib.Path, order
     with changed(copy) as database:
         database.execute("INSERT INTO pools VALUES (6, 0)")
     assert (planned().pool, planned().begun, planned().ended) == (7, None, None)
-
-
-def test_two_calls_that_end_it_write_one_line(decided: pathlib.Path) -> None:
-    it = closing.Plan(b"{}", {"amount": 5}, 6)
-    for word in ("closed", "closed", "gave up", "gave up", "closed"):
-        closing.end(decided, word, it, "why")
-    assert [it.partition(" pool")[0] for it in told(decided)] == ["closed", "gave up", "closed"]
-
-
-def test_which_numbers_are_asked_for() -> None:
-    assert answered.numbers_beside([], 99) == [1, 2, 3]
-    assert answered.numbers_beside([1, 2, 4, 7], 99) == [8, 9, 10, 6, 5, 3]
-    assert answered.numbers_beside(range(1, 98), 99) == [98, 99]
-    assert answered.numbers_beside([60], 99) == [61, 62, 63, 59, 58, 57, 56, 55]
-
-
-def test_the_first_credit_that_differs_is_told() -> None:
-    was, now = [("A", "X", 5), ("B", "X", 8)], [("A", "X", 7), ("B", "X", 8)]
-    assert closing.difference(was, now) == "rehearsed were 5 units of A for X, and the office has credited 7 units of A for X"
-    assert closing.difference(was, was[:1]) == "rehearsed were 8 units of B for X, and the office has credited no more"
-    assert closing.difference(was, was) == ""
-    other = [("A", "Y", 5), ("B", "X", 8)]
-    assert closing.difference(was, other) == "rehearsed were 5 units of A for X, and the office has credited 5 units of A for Y"
-
-
-def test_the_right_of_an_order_is_told(decided: pathlib.Path) -> None:
-    for kind, right in (({}, "PR"), ({"kind": "MR"}, "MR")):
-        it = closing.Plan(b"{}", {**kind, "amount": 5_000, "returns": []}, 6)
-        closing.ask_for(decisions.read(decided), it, decided / "order.json", "why")
-        assert it.words == f"pool 6: 5,000 units of the {right}" and told(decided)[-1] == f"asked for a pool: 5,000 units of the {right}"
-
-
-def test_of_returns_of_the_office_those_of_the_pools_number_are_sent() -> None:
-    returns = [["AMEND1", 6], ["LATE00000001", 7], ["RADIO1", 6]]
-    assert closing.Plan(b"{}", {"amount": 5, "returns": returns}, 6).own == [("AMEND1", 6)]

@@ -6,7 +6,7 @@ import pathlib
 import pytest
 from click.testing import CliRunner
 from desk import ANNA, BORIS, CLARA, HOUSE, OTHER, Desk, file, holder, work
-from office_value import Pool, Return
+from office_value import Pool, Return, Step
 from society_office.basics.errors import OfficeError
 from society_office.closings import dues
 from society_office.closings.amendments import remarks_on
@@ -16,10 +16,10 @@ from society_office.commands.cli import main
 
 A, B = "ATABC2600001", "ATABC2600002"
 # A pool of 1,000 over a recording that nobody has.
-PLAYED = [Return("RADIO1", 1, [(A, 10, 10)]), Pool(1, "PR", 1_000, {}, [("RADIO1", 1)])]
+PLAYED: list[Step] = [Return("RADIO1", 1, [(A, 10, 10)]), Pool(1, "PR", 1_000, {}, [("RADIO1", 1)])]
 
 
-def of_a(number: int = 1, sender: str = HOUSE, who: str = ANNA, mr: int = 10_000) -> object:
+def of_a(number: int = 1, sender: str = HOUSE, who: str = ANNA, mr: int = 10_000) -> Step:
     """A file with a work that names A."""
     return file(sender, number, work("W1", A, holder(who, 10_000, mr)))
 
@@ -163,7 +163,7 @@ def test_an_amended_pool_whose_conflict_was_settled(program: str, tmp_path: path
 def test_a_book_with_rounds_and_corrections_of_before(program: str, tmp_path: pathlib.Path) -> None:
     """SETTLED reads as LATE and CORRECTEDn as DUE: they have no due of their own, and what they credit is paid."""
     desk = Desk(program, tmp_path, *PLAYED, of_a(), Return("RADIO1", 2, [(B, 1, 1)]), Pool(2, "PR", 300, {}, [("RADIO1", 2)]))
-    steps = [
+    steps: list[Step] = [
         Return("SETTLED", 1, [(A, 600, 1)]),
         Pool(3, "PR", 600, {HOUSE: 1}, [("SETTLED", 1)]),
         file(HOUSE, 2, work("W2", B, holder(BORIS, 10_000))),
@@ -365,7 +365,7 @@ def test_what_an_amendment_changes_is_told() -> None:
 def test_an_amendment_keeps_void_returns_and_shows_what_is_due_without_them(
     program: str, tmp_path: pathlib.Path, decided: pathlib.Path
 ) -> None:
-    returns = [Return("RADIO1", 1, [(A, 10, 10)]), Return("RADIO1", 2, [(B, 10, 10)])]
+    returns: list[Step] = [Return("RADIO1", 1, [(A, 10, 10)]), Return("RADIO1", 2, [(B, 10, 10)])]
     desk = Desk(program, tmp_path, of_a(), *returns, Pool(1, "PR", 1_000, {HOUSE: 1}, [("RADIO1", 1), ("RADIO1", 2)]))
     (decided / "void.txt").write_text("RADIO1/2  # a wrong month\n")
     shown = json.loads(desk.run("amend", 1, "--amount", 600, "--format", "json"))

@@ -10,7 +10,7 @@ import reckoning
 from click.testing import CliRunner
 from command import run
 from conftest import further, made
-from office_value import File, Office, Pool, Return, order_body
+from office_value import File, Office, Pool, Return, Step, order_body
 from society_office.book.copy import open_copy
 from society_office.closings.orders import Wanted, pool_for, propose
 from society_office.commands.cli import main
@@ -54,7 +54,7 @@ def test_why_nobody_is_paid(copy: pathlib.Path) -> None:
 
 EPSILON = quarter.EPSILON
 # What is sent after the quarter, and paid at its last cut: works that are revised, rejected, come twice after the cut, or wait.
-WHY = [
+WHY: list[Step] = [
     File(
         EPSILON,
         3,

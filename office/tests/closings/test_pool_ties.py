@@ -8,7 +8,7 @@ from chains import Chain
 from command import run
 from desk import ANNA, HOUSE, Desk, file, holder, work
 from ledger import EMPTY, Order, opened
-from office_value import Pool, Return
+from office_value import Pool, Return, Step
 from page_tables import figures_of, tables_of
 from society_office.book.copy import Copy
 from society_office.book.own_returns import ROWLESS
@@ -99,7 +99,11 @@ def test_pools_in_words(pools: list[int], words: str) -> None:
 @pytest.fixture
 def desk(program: str, tmp_path: pathlib.Path) -> Desk:
     """An office whose pool 1 paid half of a recording to Anna, the other half and another recording to nobody; then it was corrected."""
-    steps = [Return("RADIO1", 1, PLAYS), Return("RADIO1", 2, PLAYS), file(HOUSE, 1, work("W1", "ATABC2600001", holder(ANNA, 5_000)))]
+    steps: list[Step] = [
+        Return("RADIO1", 1, PLAYS),
+        Return("RADIO1", 2, PLAYS),
+        file(HOUSE, 1, work("W1", "ATABC2600001", holder(ANNA, 5_000))),
+    ]
     found = Desk(program, tmp_path, *steps, Pool(1, "PR", 2_120, {HOUSE: 1}, [("RADIO1", 1)]))
     found.amend(1, "--amount", 4_240)
     found.steps(file(HOUSE, 2, work("W2", "ATABC2600002", holder(ANNA, 10_000))))
@@ -113,7 +117,7 @@ def test_the_pages_tell_what_was_corrected_and_settled(desk: Desk, decided: path
     desk.run("site", "--into", site)
     page = (site / "pools/1.html").read_text()
     link = '<a href="../pools/99999.html">99999</a>'
-    assert f'was corrected by pool {link}: amount 4,240 in the place of 2,120</li>' in page
+    assert f"was corrected by pool {link}: amount 4,240 in the place of 2,120</li>" in page
     assert "RADIO1/1 (void)" in page and "RADIO1/1, paid by pool <a" in page and ", is void</li>" in page
     made = (site / "pools/99998.html").read_text()
     assert 'makes up what was lacking by pool <a href="../pools/1.html">1</a></li>' in made

@@ -11,7 +11,7 @@ import reckoning
 from answers import rows_of
 from command import run
 from conftest import further, made
-from office_value import File, Office, Pool, Return, order_body
+from office_value import File, Office, Pool, Return, Step, order_body
 from society_office.book.copy import open_copy
 from society_office.book.stored_returns import Stored, far_ones
 from society_office.closings import rehearsal_output
@@ -68,7 +68,7 @@ def test_plays_that_were_sent_twice_are_proposed_once(office: pathlib.Path, righ
 
 def test_plays_that_were_paid_in_both_rights(office: pathlib.Path, program: str, tmp_path: pathlib.Path) -> None:
     paid = [order(("RADIO3", 1), right="MR"), order(("RADIO3", 2))._replace(pool=7)]
-    steps = [Return("RADIO3", 3, PLAYS), *paid]
+    steps: list[Step] = [Return("RADIO3", 3, PLAYS), *paid]
     then = further(program, office, [quarter.OFFICE.request(it) for it in steps], tmp_path / "paid.db")
     for right, other in (("PR", "RADIO3/2, paid by pool 7 in the PR"), ("MR", "RADIO3/1, paid by pool 6 in the MR")):
         found = notes(then, program, order(("RADIO3", 3), right=right)._replace(pool=8))

@@ -24,6 +24,7 @@ from society_office.book.copy import open_copy
 from society_office.book.page_sums import changed
 from society_office.book.soundness import need_sound
 from society_office.checks import checking
+from society_office.offices.asking import Request
 from society_office.offices.program import Answer, Office, free_port
 from society_office.printed import pages
 from society_office.second_office import resending
@@ -35,7 +36,10 @@ COMMAND = [sys.executable, str(ROOT / "office/society-office")]
 @pytest.fixture(autouse=True)
 def heeded() -> Iterator[None]:
     """What is started in the background ignores Ctrl-C, and under nohup the end of its terminal; neither is so while a test runs."""
-    before = {it: signal.signal(it, how) for it, how in ((signal.SIGINT, signal.default_int_handler), (signal.SIGHUP, signal.SIG_DFL))}
+    before = {
+        signal.SIGINT: signal.signal(signal.SIGINT, signal.default_int_handler),
+        signal.SIGHUP: signal.signal(signal.SIGHUP, signal.SIG_DFL),
+    }
     yield
     for number, handler in before.items():
         signal.signal(number, handler)
@@ -310,7 +314,7 @@ def test_nothing_that_was_sent_steers_a_terminal(tmp_path: pathlib.Path, program
 def test_nothing_that_is_answered_steers_a_terminal(capsys: pytest.CaptureFixture[str]) -> None:
     say(f"one{STEERING}\ntwo\r")
     assert capsys.readouterr().out == "oneW?[2J?\ntwo?\n"
-    told = resending.why(resending.Request(resending.ORDER, "pools/1", b""), Answer(500, STEERING.encode() + b"\nA"))
+    told = resending.why(Request(resending.ORDER, "pools/1", b""), Answer(500, STEERING.encode() + b"\nA"))
     assert told == "status 500, W?[2J??A"
     assert not Answer(200, b'{"state":7}').is_taken and Answer(201, b'{"state":"closed"}').is_taken
 

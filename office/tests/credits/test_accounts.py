@@ -17,7 +17,7 @@ import reckoning
 from answers import balances_by_pool, check_balances, check_explained, check_stored
 from command import run
 from conftest import further
-from office_value import Pool, Return, return_body
+from office_value import Pool, Return, Step, return_body
 from society_office.basics.errors import OfficeError
 from society_office.book.page_sums import changed
 from society_office.closings.dues import shared
@@ -89,7 +89,7 @@ def test_an_explanation_in_words(copy: pathlib.Path, tmp_path: pathlib.Path, dec
 
 
 def test_the_last_unit_goes_to_the_first_recording(copy: pathlib.Path, tmp_path: pathlib.Path, program: str) -> None:
-    steps = [
+    steps: list[Step] = [
         Return("RADIO8", 1, [("ZZZZZ2600001", 1, 10), ("ATABC2600004", 1, 10)]),
         Pool(6, "MR", 1_001, quarter.FIRST_CUT, [("RADIO8", 1)]),
     ]

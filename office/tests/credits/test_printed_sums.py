@@ -13,13 +13,13 @@ import reckoning
 from answers import rows_of
 from command import run
 from conftest import further
-from office_value import PLAIN, End, Office, Pool, Return, order_body
+from office_value import End, Office, PLAIN, Pool, Return, Step, order_body
 from society_office.book.page_sums import changed
 from society_office.closings import dues_output, order_output, rehearsal_output
 from society_office.credits import statement_output
 from society_office.credits.unclaimed import Cause, Item
 from society_office.printed import site
-from test_statements import earned_by, lines_by
+from test_statements import lines_by
 
 BALANCES = reckoning.balances(quarter.OFFICE)
 ACCOUNT = "I00000000295"
@@ -54,7 +54,7 @@ def printed(text: str, heading: str) -> list[list[str]]:
 def sums(key: str, *places: int) -> dict[tuple[object, ...], int]:
     """What the lines of a key come to, by the cells at these places: pool, right, isrc, title, work, sender, account of a publisher's."""
     found = Counter[tuple[object, ...]]()
-    for it in earned_by(key) if key in quarter.NAMES else lines_by(key):
+    for it in lines_by(key):
         found[tuple(it[k] for k in places)] += int(str(it[-1]))
     return dict(found)
 
@@ -224,7 +224,7 @@ def test_dues_as_a_table(copy: pathlib.Path, program: str, monkeypatch: pytest.M
 def test_dues_of_a_pool_and_of_an_account(copy: pathlib.Path, program: str, decided: pathlib.Path) -> None:
     (decided / "void.txt").write_text("RADIO2/1\n")
     words = ["dues", copy, "--program", program, "--format", "json"]
-    steps = [it for it in quarter.OFFICE.steps if not isinstance(it, Pool)]
+    steps: list[Step] = [it for it in quarter.OFFICE.steps if not isinstance(it, Pool)]
     alone = Office(quarter.NAMES, [*steps, quarter.POOLS[0]._replace(returns=[("RADIO1", 1)])])
     paid, due = reckoning.sums(reckoning.credits(quarter.OFFICE, 1)), Counter[str]()
     for key, units in reckoning.due(alone).items():
@@ -257,7 +257,7 @@ def test_a_cut_names_the_last_file_also_where_an_end_is_stated(copy: pathlib.Pat
 
 
 def test_the_units_of_a_credit_stand_once_in_an_explanation(copy: pathlib.Path, tmp_path: pathlib.Path, program: str) -> None:
-    steps = [
+    steps: list[Step] = [
         Return("RADIO8", 1, [("ATABC2600001", 1, 100), ("ATABC2600001", 2, 200), ("ATABC2600002", 1, 50), ("ATABC2600001", 3, 100)]),
         Pool(6, "PR", 1_001, quarter.FIRST_CUT, [("RADIO8", 1)]),
     ]

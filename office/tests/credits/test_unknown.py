@@ -7,13 +7,13 @@ import pytest
 from answers import rows_of
 from command import run
 from desk import ANNA, HOUSE, NAMES, OTHER, Desk, file, holder, work
-from office_value import Pool, Return
+from office_value import Pool, Return, Step
 from society_office.credits.unknown import titles_in
 from society_office.credits.unknown_output import COLUMNS
 
 # Of W1, exchanged; of nobody and like W2; of a work that was rejected; of a file that waits.
 EXCHANGED, LIKE, REJECTED, WAITS = "ATABC2600010", "DEXYZ2500002", "ATABC2600003", "ATABC2600004"
-STEPS = [
+STEPS: list[Step] = [
     file(HOUSE, 1, work("W1", "ATABC2600001", holder(ANNA, 10_000)), work("W3", REJECTED, holder(ANNA, 10_001))),
     file(OTHER, 1, work("W2", "DEXYZ2600002", holder(ANNA, 10_000))),
     file(OTHER, 3, work("W4", WAITS, holder(ANNA, 10_000))),

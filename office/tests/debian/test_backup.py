@@ -1,34 +1,28 @@
-"""Copies of an office's file and their way back: for a group, by odd names, in the place of what is no file, of another office."""
+"""Copies of an office's file: for a group, by odd names, of an office that is halted, started or cut off meanwhile."""
 
 import contextlib
 import grp
-import http.server
 import os
 import pathlib
-import re
 import shutil
 import signal
 import socket
-import sqlite3
 import subprocess
 import sys
 import tarfile
 import tempfile
-import threading
 import time
 from collections.abc import Iterator
 
 import pytest
-from command import run
-from conftest import OFFICE, ROOT, running
+from command import Word, run
+from conftest import ROOT, running
+from scripts import BACKUP, NOBODY, RESTORE, backed_up, own_group, restored, shorter
 from society_office.basics.errors import OfficeError
 from society_office.book.copy import open_copy
 from society_office.decided import decisions
 from society_office.offices.program import Office as Asked, free_port
 from society_office.watch.health import Looked, look_into_backup
-
-BACKUP, RESTORE = ROOT / "debian/bin/society-backup", ROOT / "debian/bin/society-restore"
-NOBODY = 65_534
 
 
 @pytest.fixture
@@ -39,11 +33,6 @@ def open_folder() -> Iterator[pathlib.Path]:
         yield pathlib.Path(name)
 
 
-def backed_up(database: pathlib.Path, folder: pathlib.Path, program: str, *words: str) -> subprocess.CompletedProcess[str]:
-    command = [BACKUP, "--db", database, "--to", folder / "backups", "--program", program, *words]
-    return subprocess.run(command, capture_output=True, text=True, check=False)
-
-
 # In the place of `cp`: it has the file open, as that has, until it may go on.
 HELD_CP = """#!/bin/bash
 exec 5< "$1"
@@ -51,13 +40,6 @@ touch "$(dirname "$0")/copying"
 while [ ! -e "$(dirname "$0")/go-on" ]; do sleep 0.05 5<&-; done
 exec /bin/cp "$@"
 """
-
-
-def own_group() -> str:
-    """A group that this user can give a file to, for root another one than its own."""
-    return (
-        next(it.gr_name for it in grp.getgrall() if it.gr_gid not in (0, NOBODY)) if os.getuid() == 0 else grp.getgrgid(os.getgid()).gr_name
-    )
 
 
 def test_a_program_that_is_not_there(copy: pathlib.Path, tmp_path: pathlib.Path) -> None:
@@ -77,8 +59,8 @@ def test_a_copy_for_a_group(copy: pathlib.Path, open_folder: pathlib.Path, progr
     assert [(it.stat().st_gid, it.stat().st_mode & 0o777) for it in (place, place / "copy.db")] == [(gid, 0o750), (gid, 0o640)]
     if os.getuid() == 0:
         shutil.copytree(ROOT / "office/society_office", open_folder / "society_office")
-        words = [sys.executable, "-c", "from society_office.commands.cli import main; main()", "parties", place / "copy.db"]
-        for groups, status in (([gid], 0), ([], 1)):
+        words: list[Word] = [sys.executable, "-c", "from society_office.commands.cli import main; main()", "parties", place / "copy.db"]
+        for groups, status in (((gid,), 0), ((), 1)):
             ran = subprocess.run(words, cwd=open_folder, user=NOBODY, group=NOBODY, extra_groups=groups, capture_output=True, check=False)
             assert ran.returncode == status, ran.stderr
 
@@ -137,7 +119,7 @@ def test_another_lets_the_office_go_on(copy: pathlib.Path, tmp_path: pathlib.Pat
     with running(program, copy, free_port(), "--existing", "--connections", "1") as office:
         (tools / "cp").write_text(OTHERS_SIGNAL.replace("TIMES", str(times)).replace("OFFICE", str(office.pid)))
         (tools / "cp").chmod(0o755)
-        words = [BACKUP, "--db", copy, "--to", tmp_path / "backups", "--program", program]
+        words: list[Word] = [BACKUP, "--db", copy, "--to", tmp_path / "backups", "--program", program]
         env = {**os.environ, "PATH": f"{tools}:{os.environ['PATH']}"}
         done = subprocess.run(words, env=env, capture_output=True, text=True, check=False)
         assert pathlib.Path(f"/proc/{office.pid}/stat").read_text().rpartition(")")[2].split()[0] != "T"
@@ -150,7 +132,7 @@ def test_an_office_that_is_started_while_its_files_are_copied(copy: pathlib.Path
     tools.mkdir()
     (tools / "cp").write_text(HELD_CP)
     (tools / "cp").chmod(0o755)
-    words = [BACKUP, "--db", copy, "--to", tmp_path / "backups", "--program", program]
+    words: list[Word] = [BACKUP, "--db", copy, "--to", tmp_path / "backups", "--program", program]
     env = {**os.environ, "PATH": f"{tools}:{os.environ['PATH']}"}
     with subprocess.Popen(words, env=env, stdout=subprocess.PIPE, stderr=subprocess.PIPE, text=True) as backup:
         until = time.monotonic() + 60
@@ -172,7 +154,7 @@ def test_two_backups_of_one_office_at_once(copy: pathlib.Path, tmp_path: pathlib
     with office:
         started = []
         for folder, path in zip(both, (f"{tools}:{os.environ['PATH']}", os.environ["PATH"])):
-            words = [BACKUP, "--db", copy, "--to", folder, "--program", program]
+            words: list[Word] = [BACKUP, "--db", copy, "--to", folder, "--program", program]
             started.append(subprocess.Popen(words, env={**os.environ, "PATH": path}, stdout=subprocess.DEVNULL, stderr=subprocess.PIPE))
             until = time.monotonic() + 60
             while not ((tools / "copying").exists() and list(folder.glob(".unfinished.*"))) and time.monotonic() < until:
@@ -210,89 +192,16 @@ echo x >> "$(dirname "$0")/asked"
 """
     )
     (tools / "date").chmod(0o755)
-    words = [BACKUP, "--db", copy, "--to", tmp_path / "backups", "--program", program]
+    words: list[Word] = [BACKUP, "--db", copy, "--to", tmp_path / "backups", "--program", program]
     for _ in range(2):
         subprocess.run(words, env={**os.environ, "PATH": f"{tools}:{os.environ['PATH']}"}, check=True, stdout=subprocess.DEVNULL)
     assert {it.name for it in (tmp_path / "backups").glob("*.db")} == {f"office-2026-10-25-02300{it}.db" for it in (0, 1)}
 
 
-@pytest.mark.parametrize("front", ["02", "00", "0000003", "26-1", "-1", ""])
-def test_a_front_that_no_office_tells_is_refused_first(copy: pathlib.Path, tmp_path: pathlib.Path, front: str) -> None:
-    # (nothing is stopped, and nothing put in place, which the office would then be told to be wrong)
-    words = [RESTORE, "--from", copy, "--db", tmp_path / "office.db", "--sender", "PB000000012", "--front", front, "--service", "no-such"]
-    done = subprocess.run(words, capture_output=True, text=True, check=False)
-    assert done.returncode == 2 and done.stderr.startswith("usage: society-restore --from") and not (tmp_path / "office.db").exists()
-
-
-def shorter(script: pathlib.Path, folder: pathlib.Path, seconds: int) -> pathlib.Path:
-    """The script as in a checkout, whose longest time is so many seconds."""
-    found = folder / "checkout/debian/bin" / script.name
-    found.parent.mkdir(parents=True)
-    (folder / "checkout/office").symlink_to(ROOT / "office")
-    found.write_text(re.sub(r"^LONGEST=\d+$", f"LONGEST={seconds}", script.read_text(), flags=re.M))
-    found.chmod(0o755)
-    return found
-
-
-# In the place of `systemctl`: `start` starts an office that ends with its first connection.
-SERVICE = """#!/bin/bash
-cd "$(dirname "$0")"
-case $1 in
-  start) "$SOCIETY_PROGRAM" serve --existing --db "$SOCIETY_FILE" WORDS > out 2>&1 < /dev/null & echo $! > pid ;;
-  stop) { kill "$(cat pid)"; } 2> /dev/null ;;
-esac
-exit 0
-"""
-
-
-class Refusing(http.server.BaseHTTPRequestHandler):
-    """A proxy that lets nobody through."""
-
-    def do_GET(self) -> None:
-        self.send_error(403)
-
-    def log_message(self, *_: object) -> None:
-        pass
-
-
-def test_a_restore_asks_the_office_and_no_proxy(copy: pathlib.Path, tmp_path: pathlib.Path, program: str) -> None:
-    port, database, tools = free_port(), tmp_path / "office/office.db", tmp_path / "tools"
-    tools.mkdir()
-    database.parent.mkdir()
-    words = " ".join(f"'{it}'" for it in ["--port", str(port), "--connections", "1", *OFFICE])
-    (tools / "systemctl").write_text(SERVICE.replace("WORDS", words))
-    (tools / "systemctl").chmod(0o755)
-    with http.server.HTTPServer(("127.0.0.1", 0), Refusing) as proxy:
-        threading.Thread(target=proxy.serve_forever, daemon=True).start()
-        address = f"http://127.0.0.1:{proxy.server_port}"
-        (tmp_path / ".curlrc").write_text("output = /dev/null\n")
-        env = {**os.environ, "PATH": f"{tools}:{os.environ['PATH']}", "http_proxy": address, "HOME": str(tmp_path)}
-        env |= {"SOCIETY_PROGRAM": program, "SOCIETY_FILE": str(database)}
-        asked = ["--sender", "PB000000012", "--front", "3", "--port", str(port), "--program", program]
-        done = subprocess.run([RESTORE, "--from", copy, "--db", database, *asked], env=env, capture_output=True, text=True, check=False)
-        proxy.shutdown()
-    assert (done.returncode, done.stderr) == (0, "") and "and the front of PB000000012 is 3" in done.stdout
-
-
-def test_a_restore_without_a_program(copy: pathlib.Path, tmp_path: pathlib.Path) -> None:
-    words = [RESTORE, "--from", copy, "--db", tmp_path / "office.db", "--service", "none", "--program", tmp_path / "none"]
-    done = subprocess.run(words, capture_output=True, text=True, check=False)
-    assert (done.returncode, done.stderr) == (1, f"restore: FAILED: there is no program {tmp_path / 'none'}\n")
-
-
-def restored(backup: object, database: object, program: str, cwd: pathlib.Path | None = None) -> subprocess.CompletedProcess[str]:
-    words = [RESTORE, "--from", backup, "--db", database, "--service", "none", "--program", program]
-    return subprocess.run([str(it) for it in words], cwd=cwd, capture_output=True, text=True, check=False)
-
-
-def everything(folder: pathlib.Path) -> dict[pathlib.Path, bytes]:
-    return {it: it.read_bytes() if it.is_file() else b"" for it in folder.rglob("*")}
-
-
 def test_names_that_begin_with_a_dash_or_have_a_line_end(copy: pathlib.Path, tmp_path: pathlib.Path, program: str) -> None:
     copy.rename(tmp_path / "--help")
     for folder in "-to", "new\nline":
-        words = [BACKUP, "--db", "--help", "--to", folder, "--program", program]
+        words: list[Word] = [BACKUP, "--db", "--help", "--to", folder, "--program", program]
         done = subprocess.run(words, cwd=tmp_path, capture_output=True, text=True, check=False)
         assert (done.returncode, done.stderr) == (0, "") and done.stdout.endswith("; 1 kept\n")
     done = restored("--help", "-x.db", program, tmp_path)
@@ -303,60 +212,18 @@ def test_folders_whose_names_the_program_does_not_read(copy: pathlib.Path, tmp_p
     odd = pathlib.Path(os.fsdecode(bytes(tmp_path) + b"/\xff"))
     for name, said in (odd, "is not UTF-8, and the program reads no other"), (tmp_path / "\xfc", ""):
         name.mkdir()
-        words = [BACKUP, "--db", copy, "--to", name, "--program", program]
-        for script in words, [RESTORE, "--from", copy, "--db", name / "office.db", "--service", "none", "--program", program]:
+        backup: list[Word] = [BACKUP, "--db", copy, "--to", name, "--program", program]
+        restore: list[Word] = [RESTORE, "--from", copy, "--db", name / "office.db", "--service", "none", "--program", program]
+        for script in backup, restore:
             done = subprocess.run(script, env={"PATH": os.environ["PATH"], "LC_ALL": "C"}, capture_output=True, check=False)
             assert done.returncode == bool(said) and said in done.stderr.decode(errors="replace")
-
-
-@pytest.mark.parametrize("name", ["", "office.db-wal", "office.db-shm", "office.db-journal"])
-def test_what_is_no_file_is_not_replaced(copy: pathlib.Path, tmp_path: pathlib.Path, program: str, name: str) -> None:
-    home = tmp_path / "home"
-    home.mkdir()
-    database = pathlib.Path(shutil.copy(copy, home / "office.db"))
-    if name:
-        (home / name).mkdir()
-    before = everything(home)
-    done = restored(copy, database if name else home, program)
-    assert (done.returncode, done.stderr) == (1, f"restore: FAILED: {home / name if name else home} is no file; nothing was changed\n")
-    assert everything(home) == before and {it.name for it in tmp_path.iterdir()} == {"home", "copy.db"}
-    if name == "office.db-wal":
-        done = backed_up(database, tmp_path, program)
-        assert (done.returncode, done.stderr) == (1, f"backup: FAILED: {home / name} is no file\n")
-    if name:
-        (home / name).rmdir()
-        done = restored(copy, home / name, program)
-        assert done.returncode == 1 and "names what stands beside a database; nothing was changed" in done.stderr
-
-
-@pytest.mark.parametrize("is_young", [True, False])
-def test_the_copy_of_another_office(copy: pathlib.Path, tmp_path: pathlib.Path, program: str, is_young: bool) -> None:
-    home = tmp_path / "home"
-    home.mkdir()
-    words = ["--db", home / "office.db", "--port", str(free_port()), "--connections", "1", *OFFICE[:-1], "OTHER"]
-    with subprocess.Popen([program, "serve", *words], stdout=subprocess.PIPE) as process:
-        assert process.stdout and process.stdout.readline() == b"listening\n"
-        # (killed, a young office has all in its log)
-        process.kill()
-    if not is_young:
-        assert backed_up(home / "office.db", tmp_path, program).returncode == 0
-        shutil.copy(next((tmp_path / "backups").glob("*.db")), home / "office.db")
-        (home / "office.db-wal").unlink()
-    before = everything(home)
-    done = restored(copy, home / "office.db", program)
-    said = "is of another office (--society 900 --territory 40 --name=EXAMPLE SOCIETY) than"
-    assert done.returncode == 1 and said in done.stderr and "--name=OTHER): move that away first" in done.stderr
-    assert everything(home) == before
-    (home / "office.db").unlink()
-    (home / "office.db-wal").unlink(missing_ok=True)
-    assert restored(copy, home / "office.db", program).returncode == 0
 
 
 def test_an_outcome_that_can_not_be_said(copy: pathlib.Path, tmp_path: pathlib.Path, decided: pathlib.Path, program: str) -> None:
     (tmp_path / "home").mkdir()
     unknown = f"no .tar stands beside the copy, so it is not known whether the decisions in {decided} are older than it"
-    backup = [BACKUP, "--db", copy, "--to", tmp_path / "backups", "--program", program]
-    restore = [RESTORE, "--from", copy, "--db", tmp_path / "home/office.db", "--service", "none", "--program", program]
+    backup: list[Word] = [BACKUP, "--db", copy, "--to", tmp_path / "backups", "--program", program]
+    restore: list[Word] = [RESTORE, "--from", copy, "--db", tmp_path / "home/office.db", "--service", "none", "--program", program]
     for words, said in (backup, "is there and sound"), (restore, f"is in place; nothing was there before; {unknown}"):
         with open("/dev/full", "wb") as full:
             done = subprocess.run(words, stdout=full, stderr=subprocess.PIPE, text=True, check=False)
@@ -372,8 +239,8 @@ def test_a_program_that_fails_meanwhile(copy: pathlib.Path, tmp_path: pathlib.Pa
     (tools / "sync").chmod(0o755)
     env = {**os.environ, "PATH": f"{tools}:{os.environ['PATH']}"}
     shutil.copy(copy, home / "office.db")
-    backup = [BACKUP, "--db", copy, "--to", tmp_path / "backups", "--program", program]
-    restore = [RESTORE, "--from", copy, "--db", home / "office.db", "--service", "none", "--program", program]
+    backup: list[Word] = [BACKUP, "--db", copy, "--to", tmp_path / "backups", "--program", program]
+    restore: list[Word] = [RESTORE, "--from", copy, "--db", home / "office.db", "--service", "none", "--program", program]
     for name, words, last in ("backup", backup, "no new copy is there"), ("restore", restore, "nothing was changed"):
         done = subprocess.run(words, env=env, capture_output=True, text=True, check=False)
         assert (done.returncode, done.stderr) == (1, f"sync: Input/output error\n{name}: FAILED: why is said above; {last}\n")
@@ -388,7 +255,8 @@ def test_a_halted_office_is_not_waited_for_for_ever(copy: pathlib.Path, tmp_path
     (tools / "sleep").chmod(0o755)
     with running(program, copy, free_port(), "--existing", "--connections", "1") as office:
         office.send_signal(signal.SIGSTOP)
-        words, path = [script, "--db", copy, "--to", tmp_path / "backups", "--program", program], f"{tools}:{os.environ['PATH']}"
+        words: list[Word] = [script, "--db", copy, "--to", tmp_path / "backups", "--program", program]
+        path = f"{tools}:{os.environ['PATH']}"
         done = subprocess.run(words, env={**os.environ, "PATH": path}, timeout=30, capture_output=True, text=True, check=False)
     assert (done.returncode, done.stderr) == (0, "")
 
@@ -400,7 +268,7 @@ def test_the_time_of_a_copy_is_that_of_what_it_holds(copy: pathlib.Path, tmp_pat
     # (the time that a file system gives a file may be some milliseconds old)
     (tools / "cp").write_text('#!/bin/sh\n[ -e "$0.begun" ] || date +%s.%N > "$0.begun"\nsleep 0.2\nexec /bin/cp "$@"\n')
     (tools / "cp").chmod(0o755)
-    words = [BACKUP, "--db", copy, "--to", tmp_path / "backups", "--program", program]
+    words: list[Word] = [BACKUP, "--db", copy, "--to", tmp_path / "backups", "--program", program]
     subprocess.run(words, env={**os.environ, "PATH": f"{tools}:{os.environ['PATH']}"}, check=True, stdout=subprocess.DEVNULL)
     [made] = (tmp_path / "backups").glob("office-*.db")
     assert made.stat().st_mtime <= float((tools / "cp.begun").read_text())
@@ -431,100 +299,6 @@ def test_a_place_that_holds_something_else(copy: pathlib.Path, tmp_path: pathlib
     assert (copy.read_bytes(), copy.stat().st_ino) == before
 
 
-# In the place of `systemctl`, of a service that never answers: it takes a start only once its failures are forgotten.
-FAILING = """#!/bin/bash
-cd "$(dirname "$0")"
-echo "$1" >> asked
-case $1 in
-  reset-failed) touch forgotten ;;
-  start) [ -e forgotten ] ;;
-  is-active) echo STATE ;;
-esac
-"""
-
-
-@pytest.mark.parametrize("state", ["failed", "activating"])
-@pytest.mark.parametrize("hangs", [True, False])
-def test_a_service_that_does_not_answer(copy: pathlib.Path, tmp_path: pathlib.Path, program: str, state: str, hangs: bool) -> None:
-    tools, script = tmp_path / "tools", shorter(RESTORE, tmp_path, 6 if hangs or state == "activating" else 600)
-    tools.mkdir()
-    (tmp_path / "office").mkdir()
-    (tools / "systemctl").write_text(FAILING.replace("STATE", state))
-    (tools / "systemctl").chmod(0o755)
-    with socket.create_server(("127.0.0.1", 0)) if hangs else socket.socket() as halted:
-        port = halted.getsockname()[1] if hangs else free_port()
-        words = [script, "--from", copy, "--db", tmp_path / "office/office.db", "--sender", "PB000000012", "--front", "3"]
-        done = subprocess.run(
-            [*words, "--port", str(port), "--program", program],
-            env={**os.environ, "PATH": f"{tools}:{os.environ['PATH']}"},
-            capture_output=True,
-            text=True,
-            timeout=100,
-            check=False,
-        )
-    assert done.returncode == 1 and f"the front of PB000000012 is not told at port {port}, not 3. society is stopped" in done.stderr
-    asked = (tools / "asked").read_text().split()
-    assert asked[:3] == ["stop", "reset-failed", "start"] and asked[-1] == "stop" and (tmp_path / "office/office.db").exists()
-
-
-def test_a_restore_that_is_cut_off_tells_what_stands(copy: pathlib.Path, tmp_path: pathlib.Path, program: str) -> None:
-    tools = tmp_path / "tools"
-    tools.mkdir()
-    (tmp_path / "office").mkdir()
-    (tools / "systemctl").write_text(FAILING.replace("STATE", "activating"))
-    (tools / "systemctl").chmod(0o755)
-    with socket.create_server(("127.0.0.1", 0)) as halted:
-        words = [RESTORE, "--from", copy, "--db", tmp_path / "office/office.db", "--sender", "PB000000012", "--front", "3"]
-        words += ["--port", str(halted.getsockname()[1]), "--program", program]
-        env = {**os.environ, "PATH": f"{tools}:{os.environ['PATH']}"}
-        with subprocess.Popen(words, env=env, stderr=subprocess.PIPE, text=True, start_new_session=True) as restore:
-            asking, _ = halted.accept()
-            os.killpg(restore.pid, signal.SIGTERM)
-            said = restore.communicate(timeout=60)[1]
-            asking.close()
-    assert (restore.returncode, said) == (143, "restore: cut off; the backup is in place; run this again\n")
-
-
-def test_what_stood_beside_the_file_goes_with_it(copy: pathlib.Path, tmp_path: pathlib.Path, program: str) -> None:
-    """The next start would be refused for what another program broke off."""
-    home, endings = tmp_path / "home", ("", "-wal", "-shm", "-journal")
-    home.mkdir()
-    for ending in endings:
-        (home / f"office.db{ending}").write_bytes(copy.read_bytes() if not ending else b"x" * 99)
-    assert restored(copy, home / "office.db", program).returncode == 0
-    aside = next(home.glob("aside-*"))
-    assert {it.name for it in home.iterdir()} == {"office.db", aside.name}
-    assert {it.name: it.stat().st_size for it in aside.iterdir() if it.name != "office.db"} == {f"office.db{it}": 99 for it in endings[1:]}
-
-
-class WithoutRoom(Refusing):
-    """An office that has no memory for the first question."""
-
-    asked = 0
-
-    def do_GET(self) -> None:
-        type(self).asked += 1
-        self.send_response(503 if self.asked == 1 else 200)
-        self.end_headers()
-        self.wfile.write(b'{"error":"busy"}' if self.asked == 1 else b'{"front":3,"held":[]}')
-
-
-def test_an_office_that_has_no_room_is_asked_again(copy: pathlib.Path, tmp_path: pathlib.Path, program: str) -> None:
-    tools = tmp_path / "tools"
-    tools.mkdir()
-    (tmp_path / "home").mkdir()
-    (tools / "systemctl").write_text("#!/bin/sh\n")
-    (tools / "systemctl").chmod(0o755)
-    with http.server.HTTPServer(("127.0.0.1", 0), WithoutRoom) as office:
-        threading.Thread(target=office.serve_forever, daemon=True).start()
-        words = [RESTORE, "--from", copy, "--db", tmp_path / "home/office.db", "--sender", "PB000000012", "--front", "3"]
-        words += ["--port", str(office.server_port), "--program", program]
-        env = {**os.environ, "PATH": f"{tools}:{os.environ['PATH']}"}
-        done = subprocess.run(words, env=env, capture_output=True, text=True, check=False)
-        office.shutdown()
-    assert (done.returncode, done.stderr) == (0, "") and WithoutRoom.asked == 2
-
-
 def test_who_may_copy(copy: pathlib.Path, open_folder: pathlib.Path) -> None:
     """Whoever may only read the file can't halt the office, and would copy what it writes meanwhile."""
     if os.getuid() != 0:
@@ -536,183 +310,6 @@ def test_who_may_copy(copy: pathlib.Path, open_folder: pathlib.Path) -> None:
     assert (done.returncode, done.stderr) == (1, f"backup: FAILED: only root and the user of the office may copy {database}\n")
 
 
-def test_half_of_two_files_is_not_restored(copy: pathlib.Path, tmp_path: pathlib.Path, program: str) -> None:
-    (tmp_path / "home").mkdir()
-    log = copy.with_name(copy.name + "-wal")
-    # (an audit leaves a log of 41 bytes beside a copy)
-    for size, status in (42, 1), (41, 0):
-        log.write_bytes(bytes(size))
-        done = restored(copy, tmp_path / "home/office.db", program)
-        assert done.returncode == status and ("is half of a copy of two files" in done.stderr) == bool(status)
-        assert (tmp_path / "home/office.db").exists() == (not status)
-
-
-def test_what_a_restore_has_put_aside_is_a_copy(copy: pathlib.Path, tmp_path: pathlib.Path, program: str) -> None:
-    """With the log beside it, which has what came last."""
-    home, other = tmp_path / "home", tmp_path / "other"
-    for it in home, other:
-        it.mkdir()
-    shutil.copy(copy, home / "office.db")
-    with running(program, home / "office.db", port := free_port(), "--existing", "--connections", "9"):
-        office = Asked(f"http://127.0.0.1:{port}")
-        assert office.ask("PUT", "/v1/returns/RADIO7/1", b"isrc,plays,seconds\n").status == 201
-        office.close()
-    assert restored(copy, home / "office.db", program).returncode == 0
-    aside = next(home.glob("aside-*")) / "office.db"
-    assert aside.with_name("office.db-wal").stat().st_size > 41
-    assert restored(aside, other / "office.db", program).returncode == 0
-    with open_copy(other / "office.db") as opened:
-        assert ("RADIO7", 1) in list(opened.rows("SELECT reporter, number FROM returns"))
-    aside.with_name("office.db-wal").write_bytes(changed_bit(aside.with_name("office.db-wal").read_bytes()))
-    assert restored(aside, other / "office.db", program).returncode == 1
-
-
-def changed_bit(log: bytes) -> bytes:
-    """A log with a changed bit in its first page."""
-    return log[:99] + bytes([log[99] ^ 1]) + log[100:]
-
-
-# In the place of `systemctl`: a service that runs, whose start is told, and which ends with the script's own test.
-RUNNING = """#!/bin/bash
-cd "$(dirname "$0")"
-echo "$1" >> asked
-case $1 in
-  is-active) cat state ;;
-  stop) echo inactive > state ;;
-  start) echo active > state; echo "$(sha256sum < "$SOCIETY_FILE") $(date +%s%N)" >> served ;;
-esac
-exit 0
-"""
-
-
-def service(tmp_path: pathlib.Path, copy: pathlib.Path) -> tuple[pathlib.Path, pathlib.Path, dict[str, str]]:
-    """A service that runs over another book than a copy: its folder, its tools, and the environment of a script."""
-    home, tools = tmp_path / "home", tmp_path / "tools"
-    for it in home, tools:
-        it.mkdir()
-    shutil.copy(copy, home / "office.db")
-    with contextlib.closing(sqlite3.connect(home / "office.db")) as database, database:
-        database.execute("UPDATE returns SET number = 999 WHERE number = 1 AND reporter = 'TV1'")
-    (tools / "state").write_text("active\n")
-    (tools / "systemctl").write_text(RUNNING)
-    (tools / "systemctl").chmod(0o755)
-    return home, tools, {**os.environ, "PATH": f"{tools}:{os.environ['PATH']}", "SOCIETY_FILE": str(home / "office.db")}
-
-
-def restore_words(copy: pathlib.Path, home: pathlib.Path, program: str, *more: object) -> list[str]:
-    """The words of a restore that stops a service."""
-    given = [RESTORE, "--from", copy, "--db", home / "office.db", "--sender", "PB000000012", "--program", program, *more]
-    return [str(it) for it in given]
-
-
-@pytest.mark.parametrize("front", ["0", "2", "4", "57", "26-0003", "999999"])
-def test_a_wrong_front_stops_nothing(copy: pathlib.Path, tmp_path: pathlib.Path, program: str, front: str) -> None:
-    home, tools, env = service(tmp_path, copy)
-    before = everything(home)
-    done = subprocess.run(restore_words(copy, home, program, "--front", front), env=env, capture_output=True, text=True, check=False)
-    said = f"restore: FAILED: the front of PB000000012 in {copy} is 3, not {front}: look for the right copy; nothing was changed\n"
-    assert (done.returncode, done.stderr) == (1, said)
-    assert everything(home) == before and not (tools / "asked").exists()
-
-
-@pytest.mark.parametrize("name, status", [("OTHER SOCIETY", 1), ("EXAMPLE SOCIETY", 0)])
-def test_the_settings_of_another_office_stop_nothing(
-    copy: pathlib.Path, tmp_path: pathlib.Path, program: str, name: str, status: int
-) -> None:
-    home, tools, env = service(tmp_path, copy)
-    with http.server.HTTPServer(("127.0.0.1", 0), Telling) as office:
-        threading.Thread(target=office.serve_forever, daemon=True).start()
-        (tmp_path / "office.conf").write_text(f'# words\nSOCIETY=900\n TERRITORY=40\nNAME="{name}"\nPORT={office.server_port}\n')
-        words = restore_words(copy, home, program, "--front", "3", "--settings", tmp_path / "office.conf")
-        done = subprocess.run(words, env=env, capture_output=True, text=True, check=False)
-        office.shutdown()
-    assert done.returncode == status and ("is of another office (--society 900 --territory 40 --name=E" in done.stderr) == bool(status)
-    assert (tools / "asked").exists() == (not status)
-
-
-class Telling(Refusing):
-    """An office that tells a front of 3."""
-
-    def do_GET(self) -> None:
-        self.send_response(200)
-        self.end_headers()
-        self.wfile.write(b'{"front":3,"held":[]}')
-
-
-def test_what_ran_is_put_back_where_the_office_does_not_answer(copy: pathlib.Path, tmp_path: pathlib.Path, program: str) -> None:
-    home, tools, env = service(tmp_path, copy)
-    before, script = (home / "office.db").read_bytes(), shorter(RESTORE, tmp_path, 2)
-    words = [str(script), *restore_words(copy, home, program, "--front", "3", "--port", free_port())[1:]]
-    done = subprocess.run(words, env=env, capture_output=True, text=True, timeout=100, check=False)
-    assert done.returncode == 1 and "restore: what was there is back again, and society is started again\n" in done.stderr
-    assert (home / "office.db").read_bytes() == before and not (home / "office.db-wal").exists()
-    assert (tools / "state").read_text() == "active\n" and (tools / "asked").read_text().split().count("stop") == 2
-
-
-@pytest.mark.parametrize("after", ["cp", "mv", "curl", "mktemp", "sync"])
-def test_a_restore_that_is_killed_leaves_a_service_that_runs(
-    copy: pathlib.Path, tmp_path: pathlib.Path, program: str, after: str
-) -> None:
-    """Over what was there, or over the copy, whose front is right."""
-    home, tools, env = service(tmp_path, copy)
-    where = subprocess.run(["which", after], capture_output=True, text=True, check=True).stdout.strip()
-    killing = f'#!/bin/bash\nif grep -qx stop {tools}/asked 2> /dev/null; then kill -9 $PPID; exit 1; fi\nexec {where} "$@"\n'
-    (tools / after).write_text(killing)
-    (tools / after).chmod(0o755)
-    words = restore_words(copy, home, program, "--front", "3", "--port", free_port())
-    done = subprocess.run(words, env=env, capture_output=True, text=True, timeout=100, check=False)
-    until = time.monotonic() + 20
-    while (tools / "state").read_text() != "active\n" and time.monotonic() < until:
-        time.sleep(0.05)
-    # (curl is run by a part of the script)
-    assert done.returncode in (-signal.SIGKILL, 128 + signal.SIGKILL) and (tools / "state").read_text() == "active\n"
-
-
-def test_a_restore_that_is_killed_while_the_service_stops(copy: pathlib.Path, tmp_path: pathlib.Path, program: str) -> None:
-    """A stop that is under way goes on without the script: a start that came before it would leave the office down."""
-    home, tools, env = service(tmp_path, copy)
-    (tools / "systemctl").rename(tools / "at-once")
-    slowly = f'#!/bin/bash\nif [ "$1" = stop ]; then kill -9 $PPID; sleep 1; fi\nexec {tools}/at-once "$@"\n'
-    (tools / "systemctl").write_text(slowly)
-    (tools / "systemctl").chmod(0o755)
-    words = restore_words(copy, home, program, "--front", "3", "--port", free_port())
-    done = subprocess.run(words, env=env, capture_output=True, text=True, timeout=100, check=False)
-    wanted = (["is-active", "stop", "reset-failed", "start"], "active\n")
-
-    def became() -> tuple[list[str], str]:
-        return (tools / "asked").read_text().split(), (tools / "state").read_text()
-
-    until = time.monotonic() + 20
-    while became() != wanted and time.monotonic() < until:
-        time.sleep(0.05)
-    assert (done.returncode, became()) == (-signal.SIGKILL, wanted)
-
-
-def test_nothing_is_restored_under_an_office(copy: pathlib.Path, tmp_path: pathlib.Path, program: str) -> None:
-    home = tmp_path / "home"
-    home.mkdir()
-    shutil.copy(copy, home / "office.db")
-    with running(program, home / "office.db", free_port(), "--existing", "--connections", "1") as office:
-        before = everything(home)
-        done = restored(copy, home / "office.db", program)
-        assert (done.returncode, everything(home)) == (1, before)
-    assert done.stderr == f"restore: FAILED: process {office.pid} has {home / 'office.db'} open; stop it first\n"
-
-
-def test_no_signal_comes_between_the_renames(copy: pathlib.Path, tmp_path: pathlib.Path, program: str) -> None:
-    tools, home = tmp_path / "tools", tmp_path / "home"
-    for it in tools, home:
-        it.mkdir()
-    (home / "office.db").write_bytes(copy.read_bytes() + bytes(4096))
-    (tools / "mv").write_text('#!/bin/bash\n/bin/mv "$@" && kill -TERM $PPID && kill -HUP $PPID && kill -INT $PPID\n')
-    (tools / "mv").chmod(0o755)
-    words = [RESTORE, "--from", copy, "--db", home / "office.db", "--service", "none", "--program", program]
-    env = {**os.environ, "PATH": f"{tools}:{os.environ['PATH']}"}
-    done = subprocess.run(words, env=env, capture_output=True, text=True, check=False)
-    assert (done.returncode, done.stderr) == (0, "") and "is in place; what was there is in" in done.stdout
-    assert (home / "office.db").read_bytes() == copy.read_bytes() and len(list(next(home.glob("aside-*")).iterdir())) == 1
-
-
 def sent(port: int, path: str, body: bytes) -> None:
     """Puts something at an office, over a connection that ends."""
     office = Asked(f"http://127.0.0.1:{port}")
@@ -722,7 +319,10 @@ def sent(port: int, path: str, body: bytes) -> None:
 
 # The bytes of a log with one frame, of a transaction that has more.
 ONE_FRAME = 32 + 24 + 4096
+
+
 NO_ROW = b"isrc,plays,seconds\n"
+
 ORDER = b'{"amount":5,"cut":[],"returns":[]}'
 
 
@@ -739,8 +339,8 @@ def test_a_log_that_is_cut_under_the_office_is_told(
         sent(port, path, body)
         assert backed_up(copy, tmp_path, program).returncode == 0
         os.truncate(log, ONE_FRAME)
-        for words, status in ([], 1), (["--unasked"], 0):
-            done = backed_up(copy, tmp_path, program, *words)
+        for unasked, status in ((), 1), (("--unasked",), 0):
+            done = backed_up(copy, tmp_path, program, *unasked)
             said = f"FAILED: the office answers what its files have not: {what}"
             assert done.returncode == status and (said in done.stderr) == bool(status)
 
@@ -762,7 +362,7 @@ def test_what_comes_meanwhile_is_no_fault(copy: pathlib.Path, tmp_path: pathlib.
         (tools / "cp").write_text(PUTTING_CP.replace("PORT", str(port)))
         (tools / "cp").chmod(0o755)
         (tools / "cp.csv").write_bytes(NO_ROW)
-        words = [BACKUP, "--db", copy, "--to", tmp_path / "backups", "--program", program]
+        words: list[Word] = [BACKUP, "--db", copy, "--to", tmp_path / "backups", "--program", program]
         env = {**os.environ, "PATH": f"{tools}:{os.environ['PATH']}"}
         done = subprocess.run(words, env=env, capture_output=True, text=True, check=False)
     assert (done.returncode, done.stderr) == (0, "") and "stored" in (tools / "cp.answer").read_text()
@@ -798,22 +398,3 @@ def test_what_a_new_machine_needs_stands_beside_the_copy(copy: pathlib.Path, tmp
     with tarfile.open(made.with_suffix(".tar")) as found:
         names = {pathlib.Path("/", it.name) for it in found.getmembers() if it.isfile()}
     assert names == {*(decided / it for it in decisions.FILES), settings / "passwords"}
-
-
-def test_decisions_that_are_older_than_the_copy_are_told(
-    copy: pathlib.Path, tmp_path: pathlib.Path, program: str, decided: pathlib.Path
-) -> None:
-    home = tmp_path / "home"
-    home.mkdir()
-    shutil.copy(copy, tmp_path / "alone.db")
-    decisions.add(decided, decisions.VOID, ["RADIO1/3"], "void RADIO1/3", "a wrong month")
-    before = (decided / "journal.txt").read_bytes()
-    decisions.add(decided, decisions.VOID, ["RADIO1/4"], "void RADIO1/4", "a wrong month")
-    assert backed_up(copy, tmp_path, program, "--with", str(decided)).returncode == 0
-    made = next((tmp_path / "backups").glob("*.db"))
-    assert "the decisions in" not in restored(made, home / "office.db", program).stdout
-    (decided / "journal.txt").write_bytes(before)
-    said = restored(made, home / "office.db", program).stdout
-    assert f"; the decisions in {decided} are older than the copy: tar -C / -xpf {made.with_suffix('.tar')} {str(decided)[1:]}\n" in said
-    said = restored(tmp_path / "alone.db", home / "office.db", program).stdout
-    assert f"so it is not known whether the decisions in {decided} are older than it" in said

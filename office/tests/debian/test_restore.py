@@ -1,4 +1,4 @@
-"""What a restore refuses, keeps and clears away; the rest of it is tried in test_backup.py."""
+"""What a restore refuses, keeps and clears away; the rest of it is tried in test_restoring.py."""
 
 import fcntl
 import http.server
@@ -9,7 +9,7 @@ import threading
 
 import pytest
 from society_office.book.page_sums import changed
-from test_backup import Telling, backed_up, everything, restore_words, restored, service
+from scripts import Telling, backed_up, everything, restore_words, restored, service
 
 
 class TellingAnother(Telling):

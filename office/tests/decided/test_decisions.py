@@ -156,9 +156,9 @@ def test_one_that_writes_keeps_others_out(home: pathlib.Path, monkeypatch: pytes
     monkeypatch.setattr(decisions, "PATIENCE", 0.1)
     handle = os.open(home, os.O_RDONLY)
     fcntl.flock(handle, fcntl.LOCK_EX)
-    for asked in (lambda: decisions.read(home), lambda: decisions.begin(home)):
+    for asked in (decisions.read, decisions.begin):
         with pytest.raises(OfficeError, match="another command is writing there"):
-            asked()
+            asked(home)
     os.close(handle)
     decisions.read(home)
 

@@ -5,13 +5,14 @@ import subprocess
 import sys
 
 import pytest
+from command import Word
 from conftest import ROOT
 
 MEASURED = ["statement", "explain", "balances", "parties", "unclaimed", "propose", "why", "site", "dues", "rebuild", "compare"]
 
 
 def test_the_measurement_runs(program: str) -> None:
-    words = [sys.executable, ROOT / "office/bench/sizes.py", "--works", "900", "--pools", "7", "--senders", "2", "--all"]
+    words: list[Word] = [sys.executable, ROOT / "office/bench/sizes.py", "--works", "900", "--pools", "7", "--senders", "2", "--all"]
     done = subprocess.run(words, capture_output=True, text=True, check=False, env={**os.environ, "SOCIETY_PROGRAM": program})
     assert (done.returncode, done.stderr) == (0, "")
     lines = done.stdout.splitlines()
@@ -21,7 +22,7 @@ def test_the_measurement_runs(program: str) -> None:
 
 
 def test_the_comparison_of_credits_runs(program: str) -> None:
-    words = [sys.executable, ROOT / "office/bench/credits.py", "--count", "3"]
+    words: list[Word] = [sys.executable, ROOT / "office/bench/credits.py", "--count", "3"]
     done = subprocess.run(words, capture_output=True, text=True, check=False, env={**os.environ, "SOCIETY_PROGRAM": program})
     assert (done.returncode, done.stderr) == (0, "") and done.stdout.endswith("3 random offices, differing: none\n")
 
@@ -40,6 +41,6 @@ def test_the_comparison_of_credits_runs(program: str) -> None:
     ],
 )
 def test_a_script_that_would_try_nothing_fails(words: list[str], said: str, program: str) -> None:
-    command = [sys.executable, "-B", ROOT / f"bench/{words[0]}.py", "--program", program, *words[1:]]
+    command: list[Word] = [sys.executable, "-B", ROOT / f"bench/{words[0]}.py", "--program", program, *words[1:]]
     done = subprocess.run(command, capture_output=True, text=True, check=False)
     assert done.returncode in (1, 2) and done.stdout == "" and said in done.stderr.splitlines()[-1], done.stderr

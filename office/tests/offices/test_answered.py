@@ -3,6 +3,7 @@
 import dataclasses
 import json
 import pathlib
+from typing import cast
 
 import pytest
 from ledger import EMPTY, Order, opened
@@ -13,7 +14,7 @@ from society_office.closings import closing
 from society_office.closings.closing import Plan
 from society_office.commands import closing_commands
 from society_office.offices.answered import Lack, lacks, lost
-from society_office.offices.asking import Request
+from society_office.offices.asking import Connections, Request
 from society_office.offices.program import Answer
 from society_office.watch import looking
 from test_chains import ANNA, HOUSE, A, B, amend, prepared
@@ -128,7 +129,7 @@ def test_how_much_more_an_office_has_is_told(count: int, more: str) -> None:
     office.pools |= set(range(3, count))
     listed = ["return RADIO1/3", "return RADIO1/4", "return RADIO1/5", "pool 3", "pool 4", "pool 5"][:count]
     with pytest.raises(OfficeError) as raised:
-        closing_commands.need_copy_of_now(copy, office, PLAN, False)
+        closing_commands.need_copy_of_now(copy, cast(Connections, office), PLAN, False)
     what = f"the office has what /dev/null has not: {'; '.join(listed[:5])}{more}"
     assert str(raised.value) == f"{what}. Take a copy of now: systemctl start society-backup"
 
@@ -138,7 +139,7 @@ def test_a_pool_that_is_there_already_is_told_once() -> None:
     office.pools |= {3, 4}
     for pool, told_pools in ((3, "pool 3; pool 4"), (4, "pool 4; pool 3")):
         with pytest.raises(OfficeError, match=f"^the office has what /dev/null has not: {told_pools}. Take a copy of now"):
-            closing_commands.need_copy_of_now(copy, office, Plan(b"{}", {"amount": 5}, pool), True)
+            closing_commands.need_copy_of_now(copy, cast(Connections, office), Plan(b"{}", {"amount": 5}, pool), True)
 
 
 @pytest.mark.parametrize("status", closing.REFUSED)

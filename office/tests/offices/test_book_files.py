@@ -12,7 +12,8 @@ from collections.abc import Iterator
 import pytest
 import quarter
 from click.testing import CliRunner
-from conftest import OFFICE
+from command import Word
+from conftest import running
 from society_office.book import book_log
 from society_office.book.copy import open_copy
 from society_office.book.page_sums import changed
@@ -20,7 +21,7 @@ from society_office.commands.cli import main
 from society_office.offices import book_files
 from society_office.offices.program import Office, free_port
 from society_office.watch import health
-from test_backup import BACKUP
+from scripts import BACKUP
 
 Served = tuple[pathlib.Path, list[str]]
 
@@ -30,25 +31,9 @@ def served(copy: pathlib.Path, tmp_path: pathlib.Path, program: str) -> Iterator
     """An office over a file of its own, and the words by which its health is asked for."""
     database, port = tmp_path / "office.db", free_port()
     shutil.copyfile(copy, database)
-    words = [program, "serve", "--existing", "--db", str(database), "--port", str(port), "--connections", "100", *OFFICE]
-    process = subprocess.Popen(words, stdout=subprocess.PIPE)
-    try:
-        assert process.stdout and process.stdout.readline() == b"listening\n"
-        yield database, [
-            "health",
-            "--office",
-            f"http://127.0.0.1:{port}",
-            "--db",
-            str(database),
-            "--free",
-            "0",
-            "--seconds",
-            "60",
-            "--json",
-        ]
-    finally:
-        process.kill()
-        process.communicate()
+    words = ["health", "--office", f"http://127.0.0.1:{port}", "--db", str(database), "--free", "0", "--seconds", "60", "--json"]
+    with running(program, database, port, "--existing", "--connections", "100"):
+        yield database, words
 
 
 def findings(words: list[str]) -> dict[str, tuple[str, str]]:
@@ -91,7 +76,7 @@ def test_what_the_next_start_is_refused_for(served: Served) -> None:
 def test_a_log_that_was_emptied_under_the_office(served: Served, program: str) -> None:
     database, words = served
     log, office = book_files.log_of(database), Office(words[words.index("--office") + 1])
-    backup = [BACKUP, "--db", database, "--to", database.parent / "to", "--program", program]
+    backup: list[Word] = [BACKUP, "--db", database, "--to", database.parent / "to", "--program", program]
     log.write_bytes(b"")
     for number in range(3):
         if number:
@@ -204,8 +189,8 @@ def test_changed_bits_of_a_log(copy: pathlib.Path, tmp_path: pathlib.Path) -> No
         assert "is damaged" in book_log.fault_of_log(log), place
     # A transaction that was broken off, or whose first page is open still, and a log that is shut, have nothing that was confirmed.
     half = len(sound) // 2 + 16
-    for changed in sound[: len(sound) - 5_000], b"\0" + sound[1:]:
-        log.write_bytes(changed)
+    for left in sound[: len(sound) - 5_000], b"\0" + sound[1:]:
+        log.write_bytes(left)
         assert book_log.fault_of_log(log) == ""
     opened = bytearray(sound)
     opened[half + 8] = 0

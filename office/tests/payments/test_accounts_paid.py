@@ -5,6 +5,7 @@ import io
 import pathlib
 import sys
 from collections import Counter
+from typing import Any
 
 import pytest
 import quarter
@@ -12,7 +13,7 @@ import reckoning
 from answers import rows_of
 from command import run
 from desk import ANNA, HOUSE, Desk, file, holder, work
-from office_value import Pool, Return
+from office_value import Pool, Return, Step
 from society_office.payments import home
 from test_members import HEADER, IBAN
 from test_payments import ROWS, begun, paid
@@ -35,7 +36,7 @@ def settled(copy: pathlib.Path, tmp_path: pathlib.Path, decided: pathlib.Path) -
     (tmp_path / "back.csv").write_text(f"reference,amount,day,why\n900-PAY-1-M2,{orders['M2'] / 100:.2f},2026-12-03,AC04\n")
     run("pay", "returned", tmp_path / "back.csv", "--why", "x")
     run("pay", "confirm", "--batch", 1, "--day", "2026-12-02", "--why", "x")
-    run("adjust", "M1", 777, "--why", "=an advance; of \"his\"")
+    run("adjust", "M1", 777, "--why", '=an advance; of "his"')
     paid(copy, tmp_path / "out")
     return copy
 
@@ -97,7 +98,7 @@ def test_what_the_bank_has_told_stands_by_each_payment(settled: pathlib.Path) ->
     [first, *_] = [it for it in rows(settled, "M1", "--to", "2027-01-01") if it["batch"]]
     assert first["words"] == "paid on 2026-12-02"
     [adjusted] = [it for it in rows(settled, "M1", "--to", "2027-01-01") if it["what"] == "adjusted"]
-    assert (adjusted["words"], adjusted["units"]) == ("'=an advance; of \"his\"", "777")
+    assert (adjusted["words"], adjusted["units"]) == ('\'=an advance; of "his"', "777")
 
 
 def test_all_members_have_their_statements_in_a_folder(settled: pathlib.Path, tmp_path: pathlib.Path) -> None:
@@ -150,16 +151,17 @@ def test_a_workbook_of_a_member(settled: pathlib.Path, tmp_path: pathlib.Path) -
 def test_a_workbook_without_openpyxl_says_what_to_install(
     settled: pathlib.Path, tmp_path: pathlib.Path, monkeypatch: pytest.MonkeyPatch
 ) -> None:
-    monkeypatch.setitem(sys.modules, "openpyxl", None)
+    modules: dict[str, Any] = sys.modules
+    monkeypatch.setitem(modules, "openpyxl", None)
     said = run("members", "statement", settled, "M1", "--format", "xlsx", "--output", tmp_path / "x", status=1)
     assert "a workbook needs openpyxl: `apt-get install python3-openpyxl`" in said
-    monkeypatch.setitem(sys.modules, "weasyprint", None)
+    monkeypatch.setitem(modules, "weasyprint", None)
     said = run("members", "statement", settled, "M1", "--format", "pdf", "--output", tmp_path / "x", status=1)
     assert "a PDF needs WeasyPrint" in said and not (tmp_path / "x").exists()
 
 
 def test_corrections_are_named_as_such(program: str, tmp_path: pathlib.Path, decided: pathlib.Path) -> None:
-    played = [Return("RADIO1", 1, [("ATABC2600001", 10, 10)]), Pool(1, "PR", 1_000, {}, [("RADIO1", 1)])]
+    played: list[Step] = [Return("RADIO1", 1, [("ATABC2600001", 10, 10)]), Pool(1, "PR", 1_000, {}, [("RADIO1", 1)])]
     desk = Desk(program, tmp_path, *played)
     desk.steps(file(HOUSE, 1, work("W1", "ATABC2600001", holder(ANNA, 10_000))))
     desk.settled()

@@ -5,11 +5,12 @@ import pathlib
 import pytest
 from society_office.basics.errors import OfficeError
 from society_office.payments import deductions
+from society_office.payments.owed import Rule
 
 TAXES = {"M1": "domestic", "M2": "foreign", "M3": ""}
 
 
-def read(tmp_path: pathlib.Path, text: str) -> list[deductions.Rule]:
+def read(tmp_path: pathlib.Path, text: str) -> list[Rule]:
     file = tmp_path / "deductions.txt"
     file.write_text(text)
     return deductions.read(file, TAXES)

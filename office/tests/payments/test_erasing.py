@@ -6,7 +6,7 @@ import subprocess
 import sys
 
 import pytest
-from command import run
+from command import Word, run
 from conftest import ROOT
 from society_office.payments import home
 from test_members import HEADER
@@ -87,7 +87,7 @@ def test_a_journal_for_hledger_comes_to_what_is_owed(copy: pathlib.Path, place: 
 
 
 def test_of_two_who_pay_at_once_one_orders(copy: pathlib.Path, place: pathlib.Path, tmp_path: pathlib.Path) -> None:
-    words = [sys.executable, ROOT / "office/society-office", "pay", copy, "--why", "x", "--into"]
+    words: list[Word] = [sys.executable, ROOT / "office/society-office", "pay", copy, "--why", "x", "--into"]
     begun_both = [
         subprocess.Popen([*words, tmp_path / name], stdout=subprocess.PIPE, stderr=subprocess.DEVNULL, text=True, env={**os.environ})
         for name in ("a", "b")

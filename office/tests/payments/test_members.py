@@ -225,7 +225,7 @@ def test_files_are_for_the_group_alone_under_any_umask(
 def test_a_file_that_ended_early_leaves_nothing(tmp_path: pathlib.Path, monkeypatch: pytest.MonkeyPatch) -> None:
     file = tmp_path / "x"
     private.write(file, b"old")
-    monkeypatch.setattr(private.os, "fsync", lambda _: (_ for _ in ()).throw(OSError(28, "No space left on device")))
+    monkeypatch.setattr("society_office.payments.private.os.fsync", lambda _: (_ for _ in ()).throw(OSError(28, "No space left on device")))
     with pytest.raises(OfficeError, match="x could not be written: No space left on device"):
         private.write(file, b"new")
     assert file.read_bytes() == b"old" and list(tmp_path.iterdir()) == [file]

@@ -40,7 +40,7 @@ def test_pools_are_booked_by_their_days() -> None:
 def test_the_account_of_the_last_order_is_that_to_which_another_is_compared(
     copy: pathlib.Path, place: pathlib.Path, tmp_path: pathlib.Path
 ) -> None:
-    seen = []
+    seen: list[str] = []
     for account in (IBAN, OTHER, OTHER, IBAN, IBAN):
         written(place, ROWS[0].replace(IBAN, account), f"N{len(seen)},X,,,,AT,,otherwise,,,,,")
         if seen:

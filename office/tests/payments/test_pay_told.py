@@ -16,7 +16,7 @@ from office_value import Pool, Return
 from society_office.basics.errors import OfficeError
 from society_office.book.copy import open_copy
 from society_office.commands.cli import main
-from society_office.decided import decisions
+from society_office.decided.journal import sum_of
 from society_office.payments import bank_lists, booking, home, private
 from society_office.payments.accounting import Account
 from society_office.payments.words import Words
@@ -72,7 +72,7 @@ def test_the_list_to_sign(copy: pathlib.Path, place: pathlib.Path, tmp_path: pat
     page = (tmp_path / "out/list-1.html").read_text()
     assert "=Beta &lt;b&gt; Verlag" in page and ">53,056.26<" in page and ">47,028.39<" in page and ">6,027.87<" in page
     assert home.read(None).ledger.batches[1].file_sum in page and "Approved: ___" in page
-    assert home.read(None).ledger.batches[1].file_sum == decisions.sum_of((tmp_path / "out/payment-1.xml").read_bytes())
+    assert home.read(None).ledger.batches[1].file_sum == sum_of((tmp_path / "out/payment-1.xml").read_bytes())
 
 
 def test_a_batch_that_no_bank_pays_has_no_payment_file(copy: pathlib.Path, place: pathlib.Path, tmp_path: pathlib.Path) -> None:
@@ -145,7 +145,7 @@ def test_lines_that_the_journal_does_not_know_are_told_before_anything_is_given_
     (decided / "journal.txt").write_bytes(before)
     run("pay", "again", 1, "--into", tmp_path / "again")
     lines = (decided / "journal.txt").read_text().splitlines()
-    assert "pay: what was broken off stands in the ledger" in lines[-1] and lines[-1].endswith(decisions.sum_of(older))
+    assert "pay: what was broken off stands in the ledger" in lines[-1] and lines[-1].endswith(sum_of(older))
     run("pay", "again", 1, "--into", tmp_path / "again")
     assert (decided / "journal.txt").read_text().splitlines() == lines
 
@@ -197,7 +197,7 @@ def test_a_table_with_semicolons_and_columns_in_another_order() -> None:
     "units, amount", [(0, "0.00"), (-5, "-0.05"), (471, "4.71"), (123_456_789, "1,234,567.89"), (-123_456, "-1,234.56")]
 )
 def test_amounts_on_statements(units: int, amount: str) -> None:
-    assert Account.amount(type("Told", (), {"words": Words()})(), units) == amount  # type: ignore[arg-type]
+    assert Account.amount(type("Told", (), {"words": Words()})(), units) == amount
 
 
 def test_a_pool_of_an_older_book_that_corrected_another(program: str, tmp_path: pathlib.Path, decided: pathlib.Path) -> None:

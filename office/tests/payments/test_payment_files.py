@@ -9,6 +9,7 @@ import subprocess
 import xml.etree.ElementTree as xml
 
 import pytest
+from command import Word
 from conftest import ROOT
 from society_office.basics.errors import OfficeError
 from society_office.payments import bank_lists, bank_text, pain
@@ -27,7 +28,7 @@ HOSTILE = [
     "//Żółć//Łódź/",
     "Борис Щукин-Хруцкий",
     "Ἀθηνᾶ Ὀδύσσεια",
-    "O'Neil \"the\" \\ Co\u00a0KG",
+    'O\'Neil "the" \\ Co\u00a0KG',
     "ﬁ ½ № Ⅷ ™",
     "Þórður Đorđe ß ŉ ı İ",
     "x" * 300,
@@ -137,7 +138,7 @@ def refused(content: bytes, folder: pathlib.Path) -> str:
     if shutil.which("xmllint") is None:
         pytest.skip("there is no xmllint: apt-get install libxml2-utils")
     (folder / "payment.xml").write_bytes(content)
-    words = ["xmllint", "--nonet", "--noout", "--schema", ROOT / "office/tests/pain.xsd", folder / "payment.xml"]
+    words: list[Word] = ["xmllint", "--nonet", "--noout", "--schema", ROOT / "office/tests/pain.xsd", folder / "payment.xml"]
     done = subprocess.run(words, capture_output=True, text=True, check=False)
     return done.stderr if done.returncode else ""
 

@@ -10,9 +10,10 @@ import quarter
 import reckoning
 from command import run
 from desk import ANNA, HOUSE, Desk, file, holder, work
-from office_value import Pool, Return
+from office_value import Pool, Return, Step
 from society_office.basics.errors import OfficeError
 from society_office.decided import decisions
+from society_office.decided.journal import sum_of
 from society_office.payments import home, ledger, owed
 from society_office.payments.owed import Entry, Kind, Rule
 from test_members import HEADER, IBAN
@@ -96,7 +97,7 @@ def test_a_ledger_is_read_as_it_was_written() -> None:
     content, found = made(BEGUN, CREDITED, *ORDERS)
     assert [it.entry for it in found.lines] == [BEGUN, CREDITED, *ORDERS]
     assert found.owed == {"M1": 300} == {"M1": owed.owed([BEGUN, CREDITED, *ORDERS], "M1")}
-    assert content.count(b"\n") == 5 and found.sums[decisions.sum_of(content)] == 4
+    assert content.count(b"\n") == 5 and found.sums[sum_of(content)] == 4
 
 
 @pytest.mark.parametrize("number", range(1, 5))
@@ -214,7 +215,7 @@ def test_a_quarter_is_paid_once(copy: pathlib.Path, place: pathlib.Path, tmp_pat
     assert paid(copy, tmp_path / "out") == "nobody is to be paid; the last batch is 1: `pay again 1` writes its files again\n"
     line = (decided / "journal.txt").read_text().splitlines()[-1]
     assert f"\tpay batch 1: 3 payments, {sum(wanted.values()):,} units\ta quarter\tpayments/ledger.txt " in line
-    assert line.endswith(decisions.sum_of((place / "ledger.txt").read_bytes()))
+    assert line.endswith(sum_of((place / "ledger.txt").read_bytes()))
 
 
 def test_one_member_alone_is_paid(copy: pathlib.Path, place: pathlib.Path, tmp_path: pathlib.Path) -> None:
@@ -299,7 +300,7 @@ def test_who_owes_the_office_is_not_paid(copy: pathlib.Path, place: pathlib.Path
 
 
 def test_no_more_is_written_off_than_is_due_to_others(program: str, tmp_path: pathlib.Path, place: pathlib.Path) -> None:
-    played = [Return("RADIO1", 1, [("ATABC2600001", 10, 10)]), Pool(1, "PR", 1_000, {}, [("RADIO1", 1)])]
+    played: list[Step] = [Return("RADIO1", 1, [("ATABC2600001", 10, 10)]), Pool(1, "PR", 1_000, {}, [("RADIO1", 1)])]
     desk = Desk(program, tmp_path, *played)
     run("pay", "book", desk.live, "--why", "x")
     words = ["adjust", "UNCLAIMED", -1, "--why", "x", "--copy", desk.live, "--program", program]

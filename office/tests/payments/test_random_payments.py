@@ -71,7 +71,7 @@ def put_back(it: Treasurer, rng: random.Random, older: list[bytes]) -> None:
     if (old := rng.choice(older)) == now:
         return
     ledger.write_bytes(old)
-    for words in (["pay", it.path, "--into", it.folder / "out", "--why", "x"], ["ledger"], ["adjust", "M0", 5, "--why", "x"]):
+    for words in (("pay", it.path, "--into", it.folder / "out", "--why", "x"), ("ledger",), ("adjust", "M0", 5, "--why", "x")):
         assert "lacks lines that the journal tells of" in run(*words, status=1)
     assert ledger.read_bytes() == old
     ledger.write_bytes(now)

@@ -4,6 +4,7 @@ import json
 import pathlib
 import random
 import re
+from typing import Any
 
 import pytest
 import quarter
@@ -11,7 +12,7 @@ import works_by_hand
 from command import run
 from conftest import made
 from desk import ANNA, HOUSE, NAMES, OTHER, file, holder, work
-from office_value import Office, Pool, Return
+from office_value import Office, Pool, Return, Step
 from society_office.book.copy import open_copy
 from society_office.printed import work_pages, work_pieces
 from society_office.printed.site import Site
@@ -51,7 +52,7 @@ class Reader:
         assert len(self.files) == len(files) and len({it[1] for it in map(PIECE.fullmatch, files.values()) if it}) == 1
         self.begin, self.fetched = self.piece("begin"), set[str]()
 
-    def piece(self, name: str) -> object:
+    def piece(self, name: str) -> Any:
         return json.loads(self.files[name])
 
     def beginning(self, word: str) -> set[int]:
@@ -84,13 +85,12 @@ class Reader:
         return set.intersection(*listed) if listed else set()
 
     def shown(self, place: int) -> list[str]:
-        return self.piece(f"t{place // self.begin['titles']}")[place % self.begin["titles"]]
+        found: list[str] = self.piece(f"t{place // self.begin['titles']}")[place % self.begin["titles"]]
+        return found
 
 
 @pytest.mark.parametrize("number", range(6))
-def test_pieces_find_what_a_search_by_hand_finds(
-    program: str, folder: pathlib.Path, monkeypatch: pytest.MonkeyPatch, number: int
-) -> None:
+def test_pieces_find_what_a_search_by_hand_finds(program: str, folder: pathlib.Path, monkeypatch: pytest.MonkeyPatch, number: int) -> None:
     office, rng, size = with_texts(number), random.Random(f"pieces {number}"), [1, 60, 400, 2_000, 60, 400][number]
     monkeypatch.setattr(work_pieces, "LONGEST_PIECE", size)
     monkeypatch.setattr(work_pieces, "TITLES", 3)
@@ -98,7 +98,8 @@ def test_pieces_find_what_a_search_by_hand_finds(
         files = dict(Site(copy, None, lambda _: None).files())
     reader = Reader({name: text for name, text in files.items() if name.startswith("find/")})
     assert (size > 1 or len(reader.begin["wide"]) > 9) and reader.begin["works"] == len(works_by_hand.found(office, []))
-    for words in [[], *([it] for it in HOSTILE), *(question(rng, office) for _ in range(60))]:
+    questions: list[list[str]] = [[], *([it] for it in HOSTILE), *(question(rng, office) for _ in range(60))]
+    for words in questions:
         shown = [reader.shown(it) for it in sorted(reader.found(asked(words)))]
         assert [(it[3], it[2]) for it in shown] == works_by_hand.found(office, words), words
         assert all(f"works/{it[3]}/{it[1]}.html" in files for it in shown)
@@ -134,7 +135,7 @@ def test_the_page_of_a_work(copy: pathlib.Path, tmp_path: pathlib.Path) -> None:
         assert it in page
     assert "registration: rejected, fault 20: an NWR of a work that is registered; revision 1 of file 2 stands" in page
     assert "Cure: send a REV." in page and page.count("what stands above") == 1
-    assert "revision 1: accepted</span></td><td data-label=\"Says\"><span>what stands above" in page
+    assert 'revision 1: accepted</span></td><td data-label="Says"><span>what stands above' in page
     assert "FIRST SONG, T0345246801<br>ATABC2600001<br>I00000000199 ALPHA MUSIC, publisher: 50 % of the PR" in page
     late = (pages / "A4.html").read_text()
     assert "registered since: revision 0 with file 3" in late and "Not registered" not in late
@@ -165,5 +166,5 @@ def test_each_work_is_what_a_search_tells_of_it(copy: pathlib.Path, program: str
     # (two works of one number, of two senders)
     shares, returns = holder(ANNA, 5_000), [Return("RADIO1", 1, [("ATABC2600001", 1, 60), ("ATABC2600002", 3, 60)])]
     files = [file(HOUSE, 1, work("W1", "ATABC2600001", shares)), file(OTHER, 1, work("W1", "ATABC2600002", shares))]
-    steps = [*returns, *files, Pool(1, "PR", 1_000, {HOUSE: 1, OTHER: 1}, [("RADIO1", 1)])]
+    steps: list[Step] = [*returns, *files, Pool(1, "PR", 1_000, {HOUSE: 1, OTHER: 1}, [("RADIO1", 1)])]
     assert check_each(made(program, Office(NAMES, steps), folder)) == 2

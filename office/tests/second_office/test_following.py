@@ -10,7 +10,7 @@ import pytest
 import quarter
 from command import run
 from conftest import further, made
-from office_value import End, Office, Pool, Return, rank
+from office_value import End, Office, Pool, Return, Step, rank
 from society_office.basics.errors import OfficeError
 from society_office.book.copy import open_copy
 from society_office.book.page_sums import changed
@@ -41,7 +41,7 @@ def test_what_a_standby_may_lack_is_told(program: str, folder: pathlib.Path) -> 
         said = run("resend", copy, "--to", address, "--state", state, status=1, out=True)
         assert "1 sent: 1 new" in said and f"{address} has all that came until " in said and "(20 minutes ago)" in said
         assert (look(state).state, look(state, 21).state, look(state, 9).state) == (WARNING, GOOD, WRONG)
-    steps = [End(FIRST.sender, -1, 1, 26), HELD, PLAYS, Return("TV5", 2, []), Pool(1, "PR", 5, {}, [])]
+    steps: list[Step] = [End(FIRST.sender, -1, 1, 26), HELD, PLAYS, Return("TV5", 2, []), Pool(1, "PR", 5, {}, [])]
     later = further(program, copy, [office.with_steps(*steps).request(it) for it in steps], folder / "later.db")
     said = run("resend", later, "--to", address, "--since-fronts", "--state", state, "--wait", "0", "--behind", "21", out=True)
     came = f"What has come since: fronts of 1 sender ({FIRST.sender} from 1 to 26-0000), 1 held number, 1 end, 2 returns, 1 order"

@@ -12,9 +12,7 @@ from society_office.book.copy import open_copy
 from society_office.offices.asking import Connections
 from society_office.offices.program import free_port
 from society_office.second_office import mirroring
-from test_second_office import standing
-
-OTHERS = ["--society", "901", "--territory", "40", "--name", "OTHER"]
+from test_second_office import OTHERS, standing
 
 
 def test_a_standby_is_known_while_it_answers(copy: pathlib.Path, program: str, tmp_path: pathlib.Path) -> None:
@@ -59,7 +57,12 @@ def test_what_is_told_of_it_with_a_state(copy: pathlib.Path, program: str, tmp_p
 def test_nothing_is_known_before_it_was_asked(copy: pathlib.Path, tmp_path: pathlib.Path, monkeypatch: pytest.MonkeyPatch) -> None:
     office, there = Connections("http://127.0.0.1:9", 0), list[bool]()
     place = mirroring.place_of(tmp_path, office.address)
-    monkeypatch.setattr(mirroring, "is_of_same_society", lambda *_: there.append(place.exists()) or True)
+
+    def asked(*_: object) -> bool:
+        there.append(place.exists())
+        return True
+
+    monkeypatch.setattr(mirroring, "is_of_same_society", asked)
     with open_copy(copy) as opened, mirroring.told(tmp_path, opened, office):
         there.append(place.exists())
     assert there == [False, True]

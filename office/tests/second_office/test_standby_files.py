@@ -5,6 +5,7 @@ import subprocess
 import sys
 
 import pytest
+from command import Word
 from conftest import ROOT
 from society_office.basics.errors import OfficeError
 from society_office.decided import decisions
@@ -94,13 +95,14 @@ def test_what_is_wrong_there_is_told(decided: pathlib.Path, standby: pathlib.Pat
 def test_as_a_unit_runs_it(decided: pathlib.Path, standby: pathlib.Path, tmp_path: pathlib.Path) -> None:
     """The words of the unit, with an outcome in one line."""
     command = [sys.executable, "-m", "society_office.second_office.standby_files"]
-    for words, status, line in (
+    cases: tuple[tuple[list[Word], int, str], ...] = (
         ([standby, decided], 0, f"{standby} has the decisions of "),
         ([tmp_path / "none" / "deeper", decided], 1, "society-office: rsync ended with status "),
         ([standby, tmp_path / "none"], 1, f"society-office: {tmp_path / 'none'} is no folder of decisions"),
         ([standby], 2, standby_files.USAGE),
         (["", decided], 2, standby_files.USAGE),
-    ):
+    )
+    for words, status, line in cases:
         done = subprocess.run([*command, *map(str, words)], cwd=ROOT / "office", capture_output=True, text=True, check=False)
         assert done.returncode == status and (done.stdout + done.stderr).startswith(line), done
         assert len((done.stdout + done.stderr).splitlines()) == 1

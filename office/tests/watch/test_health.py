@@ -15,7 +15,7 @@ from collections.abc import Iterator
 
 import pytest
 import quarter
-from command import run
+from command import Word, run
 from conftest import ROOT, further, running
 from society_office.book.copy import open_copy
 from society_office.book.page_sums import changed
@@ -32,7 +32,21 @@ HOUR, MONTH = 3_600, 30 * 86_400
 def certificate_in(folder: pathlib.Path) -> pathlib.Path:
     """A certificate that ends in 20 days."""
     key, certificate = folder / "it.key", folder / "it.crt"
-    words = ["req", "-x509", "-newkey", "rsa:2048", "-nodes", "-keyout", key, "-out", certificate, "-days", "20", "-subj", "/CN=it"]
+    words: list[Word] = [
+        "req",
+        "-x509",
+        "-newkey",
+        "rsa:2048",
+        "-nodes",
+        "-keyout",
+        key,
+        "-out",
+        certificate,
+        "-days",
+        "20",
+        "-subj",
+        "/CN=it",
+    ]
     subprocess.run(["openssl", *words], check=True, capture_output=True)
     return certificate
 
@@ -229,7 +243,7 @@ def test_what_is_no_address_by_any_command(copy: pathlib.Path, tmp_path: pathlib
 
 @pytest.mark.parametrize("free, state", [(11, GOOD), (10, GOOD), (9, WARNING), (5, WARNING), (4, WRONG)])
 def test_the_free_part_of_a_disk(free: int, state: int, tmp_path: pathlib.Path, monkeypatch: pytest.MonkeyPatch) -> None:
-    monkeypatch.setattr(shutil, "disk_usage", lambda _: shutil._ntuple_diskusage(100, 100 - free, free))  # type: ignore[attr-defined]
+    monkeypatch.setattr(shutil, "disk_usage", lambda _: shutil._ntuple_diskusage(100, 100 - free, free))
     found = health.look_at_disk(Looked("http://x", disk=tmp_path), Limits(disk=10))
     assert (found.state, found.value) == (state, free) and f"{free} % of the disk" in found.words
 

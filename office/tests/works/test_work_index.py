@@ -129,7 +129,7 @@ def test_where_it_can_not_be_written_all_works_are_read(copy: pathlib.Path, read
         raise OSError(30, "Read-only file system")
 
     with monkeypatch.context() as patch:
-        patch.setattr(work_index.os, "open", refused)
+        patch.setattr("society_office.works.work_index.os.open", refused)
         for times in (1, 2):
             ended = CliRunner(mix_stderr=False).invoke(main, ["works", str(copy), "first", "song"], catch_exceptions=False)
             said = f"society-office: {index_of(copy)} could not be written (Read-only file system), so all works were read, as they will be"

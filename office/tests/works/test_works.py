@@ -78,7 +78,8 @@ def searched(path: pathlib.Path) -> Iterator[tuple[list[registered_works.Sent], 
 def test_works_are_found_as_by_hand(program: str, folder: pathlib.Path, number: int) -> None:
     office, rng, some = with_texts(number), random.Random(f"questions {number}"), 0
     with searched(made(program, office, folder)) as (works, index):
-        for words in [[], *([it] for it in HOSTILE), *(question(rng, office) for _ in range(QUESTIONS))]:
+        questions: list[list[str]] = [[], *([it] for it in HOSTILE), *(question(rng, office) for _ in range(QUESTIONS))]
+        for words in questions:
             wanted, things = works_by_hand.found(office, words), asked(words)
             assert [it[:2] for it in index.places(index.find(things))] == wanted, words
             assert {(it.sender, it.work) for it in works if is_found(things, it.facts)} == set(wanted), words
