@@ -26,7 +26,7 @@ TOTALS = ["member", "name", "opening", "credited", "deducted", "adjusted", "paym
 MOST_WORKS = 2_000
 # So many PDF files are begun before the first one has to be done.
 AHEAD = 32
-CSV_NAME, PAGE_NAME, PDF_NAME, BOOK_NAME = "statement.csv", "index.html", "statement.pdf", "statement.xlsx"
+CSV_NAME, PAGE_NAME, PDF_NAME = "statement.csv", "index.html", "statement.pdf"
 Row = list[str | int]
 
 
