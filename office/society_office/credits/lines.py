@@ -14,6 +14,7 @@ from society_office.formats.pool_names import POOL_COLUMNS, PoolNames, named
 NO_RECORDING = "-"
 # What a line says of its pool beside the number stands last, so that who reads lines by their places reads on.
 COLUMNS = ["pool", "right", "isrc", "title", "work", "publisher", "account", "units", *POOL_COLUMNS]
+HEADER = ",".join(COLUMNS) + "\n"
 # Lines of a statement that are held; of more of them there are the sums, and all of them as CSV.
 MOST_HELD = 2_000
 # A work as lines name it: title, number, publisher. The empty words are those of a recording that no work owns.
@@ -67,27 +68,40 @@ def held(credits: Iterable[Credit]) -> tuple[list[Credit], Sums]:
     return found, sums
 
 
+def as_line(cells: Iterable[str]) -> str:
+    """Texts as CSV, without the end of the line."""
+    out = io.StringIO()
+    csv.writer(out, lineterminator="").writerow([plain(it) for it in cells])
+    return out.getvalue()
+
+
+class Csv:
+    """Lines as CSV. What many lines have alike is written once: a work with its account, and what is said of a pool."""
+
+    def __init__(self, names: PoolNames) -> None:
+        """With the names and days of pools."""
+        self.names = names
+        self.texts, self.end = functools.cache(as_line), functools.cache(self.end_of)
+
+    def end_of(self, pool: int) -> str:
+        """What stands at the end of the lines of a pool."""
+        return as_line(named(self.names, pool))
+
+    def line(self, it: Credit) -> str:
+        """A line, with its end."""
+        return f"{it.pool},{it.right},{it.isrc},{self.texts(it[3:7])},{it.units},{self.end(it.pool)}\n"
+
+
 def write_csv(credits: Iterable[Credit], names: PoolNames, out: TextIO) -> Sums:
     """Writes lines as CSV with a header, one by one; answers their sums."""
-    writer, sums = csv.writer(out, lineterminator="\n"), Sums()
-
-    @functools.cache
-    def cells(*texts: str) -> list[str]:
-        return [plain(it) for it in texts]
-
-    @functools.cache
-    def end(pool: int) -> list[str]:
-        return cells(*named(names, pool))
-
-    writer.writerow(COLUMNS)
+    line, sums = Csv(names).line, Sums()
+    out.write(HEADER)
     for it in credits:
         sums.add(it)
-        writer.writerow([*it[:3], *cells(*it[3:7]), it.units, *end(it.pool)])
+        out.write(line(it))
     return sums
 
 
 def as_csv(credits: Iterable[Credit], names: PoolNames) -> str:
     """Lines as CSV, with a header."""
-    out = io.StringIO()
-    write_csv(credits, names, out)
-    return out.getvalue()
+    return HEADER + "".join(map(Csv(names).line, credits))

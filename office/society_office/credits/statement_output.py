@@ -1,15 +1,17 @@
 """A statement as a table, CSV, a page or a PDF, and a folder with those of all."""
 
+import functools
 import pathlib
 import sys
 from collections.abc import Iterator, Mapping, Sequence
 
+import markupsafe
 from rich.console import Console
 from rich.table import Table
 
 from society_office.basics.terminal import console, counting, say, table
 from society_office.book.copy import Copy
-from society_office.credits.lines import as_csv
+from society_office.credits.lines import Credit, as_csv
 from society_office.credits.parties import names_of, parties
 from society_office.credits.spans import Span
 from society_office.credits.statements import Statement, Statements, Sum, folder_of
@@ -110,6 +112,26 @@ def show(found: Statement, names: PoolNames, notes: Notes, out: Console) -> None
     out.print(verdict(found))
 
 
+def rows_of(found: Statement, lines: Sequence[Credit]) -> markupsafe.Markup:
+    """The rows of lines in a page. They are made here and not by the template, as there are many, and what many have alike is made once."""
+
+    def cell(label: str, text: str, kind: str = "") -> str:
+        return f'<td{kind} data-label="{label}">{markupsafe.escape(text)}</td>'
+
+    @functools.cache
+    def texts(isrc: str, title: str, work: str, publisher: str, account: str) -> str:
+        key, called = ' class="key"', found.publishers.get(publisher) or publisher
+        last = cell("Account", account, key) if found.is_of_publisher else ""
+        return cell("Recording", isrc, key) + cell("Title", title) + cell("Work", work, key) + cell("Publisher", called) + last
+
+    def row(it: Credit) -> str:
+        zero = "" if it.units else " zero"
+        head = f'<tr><td class="number" data-label="Pool">{it.pool}</td><td data-label="Right">{it.right}</td>'
+        return f'{head}{texts(*it[2:7])}<td class="number{zero}" data-label="Units">{it.units:,}</td></tr>\n'
+
+    return markupsafe.Markup("".join(map(row, lines)))
+
+
 def as_page(found: Statement, names: PoolNames, notes: Notes, taken: float, beside: str = "") -> str:
     """It as a page, with no more than so many lines; `beside` is the name of the CSV file that stands beside it."""
     return pages.page(
@@ -117,7 +139,8 @@ def as_page(found: Statement, names: PoolNames, notes: Notes, taken: float, besi
         it=found,
         pool_names=names,
         notes=notes_of(found, notes),
-        lines=found.credits[:MOST_LINES],
+        rows=rows_of(found, found.credits[:MOST_LINES]),
+        shown=min(len(found.credits), MOST_LINES),
         works=found.by_work[:MOST_LINES],
         accounts=found.by_account[:MOST_LINES],
         beside=beside,

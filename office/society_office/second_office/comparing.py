@@ -2,6 +2,7 @@
 
 import dataclasses
 import hashlib
+import itertools
 import os
 from collections.abc import Callable, Iterable, Iterator
 from typing import Any
@@ -13,6 +14,8 @@ from society_office.formats.numbering import as_json, as_sent, counted, segment_
 Row = tuple[tuple[Any, ...], Any]
 # So many characters are shown of a value, and so many before the place at which two long ones differ.
 MOST_SHOWN, LEAD = 120, 30
+# Rows that are compared at once.
+MANY = 1_000
 
 
 @dataclasses.dataclass(frozen=True)
@@ -126,35 +129,37 @@ def held(copy: Copy) -> Iterator[Row]:
             yield (line.sender,), [as_json(it) for it in numbers]
 
 
-def verdicts(copy: Copy) -> Iterator[Row]:
-    """What became of each registration and revision."""
-    question = "SELECT sender, number, place, fault, ordinal, revision FROM verdicts ORDER BY sender, number, place"
-    for sender, number, place, fault, ordinal, revision in copy.rows(question):
-        yield (sender, number, place), f"fault {fault}" if fault else f"revision {revision} of the work with ordinal {ordinal}"
+def verdict(sender: str, number: int, place: int, fault: int, ordinal: int, revision: int) -> Row:
+    """What became of a registration or a revision."""
+    return (sender, number, place), f"fault {fault}" if fault else f"revision {revision} of the work with ordinal {ordinal}"
 
 
-def versions(copy: Copy) -> Iterator[Row]:
-    """Where each version of a work stands."""
-    question = "SELECT sender, work, revision, number, place, ordinal FROM versions ORDER BY sender, work, revision"
-    for sender, work, revision, number, place, ordinal in copy.rows(question):
-        yield (sender, work, revision), f"ordinal {ordinal}, in transaction {place + 1} of file {as_sent(number)}"
+def version(sender: str, work: str, revision: int, number: int, place: int, ordinal: int) -> Row:
+    """Where a version of a work stands."""
+    return (sender, work, revision), f"ordinal {ordinal}, in transaction {place + 1} of file {as_sent(number)}"
 
 
-def recordings(copy: Copy) -> Iterator[Row]:
-    """The recordings that each version of a work names."""
-    question = "SELECT sender, work, revision, isrc FROM recordings ORDER BY sender, work, revision, isrc"
-    return ((it, "it") for it in copy.rows(question))
+def recording(*it: Any) -> Row:
+    """A recording that a version of a work names."""
+    return it, "it"
 
 
-def credits(copy: Copy) -> Iterator[Row]:
-    """Each line of each pool."""
-    for pool, line, isrc, account, units in copy.rows("SELECT pool, line, isrc, account, units FROM credits ORDER BY pool, line"):
-        yield (pool, line), (isrc, account, units)
+def credit(pool: int, line: int, isrc: str, account: str, units: int) -> Row:
+    """A line of a pool."""
+    return (pool, line), (isrc, account, units)
 
 
-def balances(copy: Copy) -> Iterator[Row]:
-    """The units of each account."""
-    return keyed(copy.rows("SELECT account, units FROM balances ORDER BY account"), 1)
+def balance(account: str, units: int) -> Row:
+    """The units of an account."""
+    return (account,), units
+
+
+def unlike(one: Copy, other: Copy, question: str) -> tuple[Iterator[Any], Iterator[Any]]:
+    """The rows of a table of two copies without those that both begin with: these are compared by thousands, as SQLite has them."""
+    here, there = one.rows(question), other.rows(question)
+    while (some := list(itertools.islice(here, MANY))) == (others := list(itertools.islice(there, MANY))) and some:
+        pass
+    return itertools.chain(some, here), itertools.chain(others, there)
 
 
 def file_name(sender: str, number: int) -> str:
@@ -172,17 +177,43 @@ KINDS: list[tuple[str, Callable[..., str], Callable[[Copy], Iterator[Row]]]] = [
     ("orders", lambda pool: f"pool {pool}", orders),
     ("fronts", str, fronts),
     ("held numbers", str, held),
-    ("verdicts", lambda sender, number, place: f"{file_name(sender, number)}, transaction {place + 1}", verdicts),
-    ("works", lambda sender, work, revision: f"{sender} {work}, revision {revision}", versions),
-    ("recordings", lambda sender, work, revision, isrc: f"{sender} {work}, revision {revision}, {isrc}", recordings),
-    ("credits", lambda pool, line: f"pool {pool}, line {line + 1}", credits),
-    ("balances", str, balances),
+]
+# Those of very many rows: how a key is told, what a row says, and the question.
+TABLES: list[tuple[str, Callable[..., str], Callable[..., Row], str]] = [
+    (
+        "verdicts",
+        lambda sender, number, place: f"{file_name(sender, number)}, transaction {place + 1}",
+        verdict,
+        "SELECT sender, number, place, fault, ordinal, revision FROM verdicts ORDER BY sender, number, place",
+    ),
+    (
+        "works",
+        lambda sender, work, revision: f"{sender} {work}, revision {revision}",
+        version,
+        "SELECT sender, work, revision, number, place, ordinal FROM versions ORDER BY sender, work, revision",
+    ),
+    (
+        "recordings",
+        lambda sender, work, revision, isrc: f"{sender} {work}, revision {revision}, {isrc}",
+        recording,
+        "SELECT sender, work, revision, isrc FROM recordings ORDER BY sender, work, revision, isrc",
+    ),
+    (
+        "credits",
+        lambda pool, line: f"pool {pool}, line {line + 1}",
+        credit,
+        "SELECT pool, line, isrc, account, units FROM credits ORDER BY pool, line",
+    ),
+    ("balances", str, balance, "SELECT account, units FROM balances ORDER BY account"),
 ]
 
 
 def compare(one: Copy, other: Copy) -> list[Difference]:
     """The first difference of each kind of two copies, of layout 2 or 3 each; none where they hold the same book and answer the same."""
-    return [found for kind, name, rows in KINDS for found in differences(kind, name, rows(one), rows(other))]
+    found = [it for kind, name, rows in KINDS for it in differences(kind, name, rows(one), rows(other))]
+    for kind, name, row, question in TABLES:
+        found += differences(kind, name, *(itertools.starmap(row, it) for it in unlike(one, other, question)))
+    return found
 
 
 def summary(copy: Copy) -> str:
