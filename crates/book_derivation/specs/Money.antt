@@ -1,6 +1,8 @@
 -- What is written of what pools pay.
-use Rattle.std.specs.Prelude.{ℕ, ◌≡◌, ◌≢◌, ◌++◌, List, [], ◌∷◌, IsPermutation, flat_map}
+use Rattle.std.specs.Prelude.{ℕ, ◌≡◌, ◌≢◌, ◌++◌, List, [], ◌∷◌, IsPermutation, Vec, flat_map}
 use Rattle.std.specs.List.{AllByRecursion}
+use Rattle.std.specs.declared.alloc.Global.{Global}
+use Rattle.pool_split.specs.Credits.{credits_together}
 use Rattle.pool_split.specs.declared.claim.Credit.{Credit}
 use Rattle.share_rules.specs.declared.office.Office.{Office}
 use Rattle.sqlite_trees.specs.Tree.{Trees}
@@ -36,6 +38,10 @@ AddsCredits pool credits = AddsCreditLines (credit_lines pool credits)
 pub record WritesPool (office : Office) (pool : ℕ) (order : Order) (works : PoolWorks) (old new : Trees) (credits : List Credit) : Type 0 where
   pub pays : PaysAmong office order works old credits
   pub adds : AddsCredits pool credits old new
+
+-- the credits of these portions are those that a pool pays so, and their lines are added
+abbrev pub WritesPortions : Office → ℕ → Order → PoolWorks → Trees → Trees → Vec (List Credit) Global → Type 0
+WritesPortions office pool order works old new portions = WritesPool office pool order works old new (credits_together portions.items)
 
 -- the lines of all credits of closed pools by a book, one pool after another
 abbrev pub lines_by : Office → Book → List ClosedPool → List Row

@@ -3,7 +3,7 @@ ghost use Rattle.std.specs.Prelude.{◌≡◌, map};
 ghost use Rattle.society_book.specs.Steps.{Never};
 ghost use Rattle.book_derivation.specs.Deriving.{Derives};
 ghost use Rattle.book_audit.specs.Paying.{CannotPayAll};
-ghost use Rattle.book_derivation.specs.Money.{AddsCredits, AddsCreditLines, CannotPayListed, WritesCredits, WritesListed, WritesPool};
+ghost use Rattle.book_derivation.specs.Money.{AddsCredits, AddsCreditLines, CannotPayListed, WritesCredits, WritesListed, WritesPortions};
 ghost use Rattle.pool_split.specs.Credits.{credits_together};
 ghost use Rattle.society_closings.specs.Blamed.{CannotPayAmong};
 ghost use Rattle.society_closings.specs.Closings.{lines_from};
@@ -71,7 +71,7 @@ fn write_pool<S: Alter>(
     order: &PoolOrder,
     works: &PoolWorks,
 ) -> Result<Vec<Portion>, RowFault>
-    ensures derives { Within S.Store tx.old tx.new (Derives (CannotPayAmong office.now order.now works.now)) result (λ before after portions. WritesPool office.now pool order.now works.now before after (credits_together portions.items)) }
+    ensures derives { Within S.Store tx.old tx.new (Derives (CannotPayAmong office.now order.now works.now)) result (WritesPortions office.now pool order.now works.now) }
 {
     let portions = paid_by(alloc, tx, office, order, works)?;
     write_lines(alloc, tx, pool.value(), portions.as_slice())?;

@@ -128,6 +128,8 @@ impl<'a> ReadFiles for ThisMachine<'a> {
 
     ghost lacks_log = { λ path. Unit {0} };
 
+    ghost fails_to_read = { λ path. Unit {0} };
+
     fn file_at(&self, path: &str) -> Result<Option<ReadFile>, OpenFault> {
         open(self.runtime, path)
     }
@@ -146,7 +148,7 @@ impl<'a> ReadFiles for ThisMachine<'a> {
 
 /// The file at a path, to be read, if there is one.
 fn open(runtime: &HostRuntime, path: &str) -> Result<Option<ReadFile>, OpenFault>
-    ensures { IfErr result IsUnread }
+    ensures { IfErr result (IsUnread (Unit {0})) }
 {
     match File::open(runtime, path) {
         Ok(file) => Ok(Some(ReadFile { file })),
@@ -156,7 +158,7 @@ fn open(runtime: &HostRuntime, path: &str) -> Result<Option<ReadFile>, OpenFault
 
 /// That there is no file, where the error says so.
 fn absent(kind: ErrorKind) -> Result<Option<ReadFile>, OpenFault>
-    ensures { IfErr result IsUnread }
+    ensures { IfErr result (IsUnread (Unit {0})) }
 {
     match kind {
         ErrorKind::NotFound => Ok(None),

@@ -1,5 +1,5 @@
 -- What connections come to that are served one after another, and the lines that are printed of them.
-use Rattle.std.specs.Prelude.{◌≡◌, ◌⊎◌, ℕ, ◌<◌, ◌≤◌, Bool, true, false, IsTrue, List, ⊤, ◌++◌, Option, Result, Ok, Err, codes, length}
+use Rattle.std.specs.Prelude.{◌≡◌, ◌⊎◌, ℕ, ◌<◌, ◌≤◌, Bool, true, false, IfOk, IsTrue, List, ⊤, ◌++◌, Option, Result, Ok, Err, codes, length}
 use Rattle.std.specs.List.{AllByRecursion}
 use Rattle.std.specs.declared.net.socket_addr.SocketAddrV4.{SocketAddrV4}
 use Rattle.http_desk.specs.Serves.{AreAnswered}
@@ -39,7 +39,7 @@ use Rattle.society_commands.specs.declared.listened.Listened.TheVariants as hear
 use Rattle.society_commands.specs.declared.opening.Job.{Job}
 use Rattle.society_commands.specs.declared.trouble.Trouble.{Trouble}
 use Rattle.society_commands.specs.declared.trouble.Trouble.TheVariants.{Database, NoConnection, NoListener, Orders}
-use Rattle.society_commands.specs.Troubles.{Tells, Warns}
+use Rattle.society_commands.specs.Troubles.{Tells, TellsOpened, Warns}
 use Rattle.society_arguments.specs.Words.{Asked, AsksAudit, AsksCredit, AsksReplay, AsksServe, Serving, serving_of}
 
 -- what is served by a job at an office
@@ -165,12 +165,13 @@ FindsSound {F = F} {g = g} opens path office contents out new_out rest =
     × Prints contents out new_out (codes "sound\n")
 
 -- no database was opened at a path to be audited, or one was and is not sound; each is told, it is left as it was, and nothing was printed
-abbrev pub FindsUnsound : {O F W : Type 0} {g : disk.Ghosts F} → Opens O F → O → List ℕ → Office → Counted W → Counted W
-    → (Trouble → Type 0) → (Trouble → Type 0) → Left F O g → Type 0
-FindsUnsound {F = F} {g = g} opens opener path office out new_out Told ToldOpened rest =
-    (((fault : OpenFault) × LeavesRefused opens opener path true fault rest × Told (Database fault))
+abbrev pub FindsUnsound : {O F W E : Type 0} {g : disk.Ghosts F} → Opens O F → O → List ℕ → Office → Counted W → Counted W
+    → (E → Option (List ℕ)) → Counted E → Counted E → Left F O g → Type 0
+FindsUnsound {F = F} {g = g} opens opener path office out new_out says err new_err rest =
+    (((fault : OpenFault) × LeavesRefused opens opener path true fault rest × Tells says err new_err (Database fault))
     ⊎ ((conn : Held (FileStore F g)) × IsOpenedAt opens path true conn
-    × ((ended : Held (FileStore F g)) × TellsUnsound office (file_state conn) (file_state ended) ToldOpened × (rest ≡ left.Connection ended))))
+    × ((ended : Held (FileStore F g)) × TellsUnsound office (file_state conn) (file_state ended) (TellsOpened opens says err new_err path)
+    × (rest ≡ left.Connection ended))))
     × (new_out ≡ out)
 
 -- readings leave a connection at rest as it was: what was committed is shown still, and a crash leaves what it left before
@@ -182,6 +183,16 @@ pub record ShowsStill (old new : connection.State) : Type 0 where
 -- by the tables of a database, where it has layout 3, this was listed
 abbrev pub ListsOver : connection.State → connection.State → (Trees → Type 0) → Type 0
 ListsOver old new Lists = connection.HasCleanDisk new → HasLayout old.now → Lists old.now.trees
+
+-- by the tables of a database, where the disk told the truth, this was listed
+abbrev pub WhereClean : connection.State → connection.State → (Trees → Type 0) → Type 0
+WhereClean old new Lists = connection.HasCleanDisk new → Lists old.now.trees
+
+-- by the tables of a database, where it has layout 3, a listing that ended said this
+abbrev pub EndsOver : {R W E : Type 0} → connection.State → connection.State → Office → (R → Option (List ℕ)) → (W → Option (List ℕ)) → (E → Option (List ℕ))
+    → Counted R → Counted R → Counted W → Counted W → Counted E → Counted E → Result (Result Bool DeskFault) RowFault → Type 0
+EndsOver old new office remaining contents says reader new_reader out new_out err new_err result =
+    IfOk result (λ listed. ListsOver old new (λ db. EndsListing office remaining contents says reader new_reader out new_out err new_err db listed))
 
 -- all that a reader gave was listed by tables, and each line was answered by rows
 abbrev pub ListsEach : {R W : Type 0} → (E : Type 0) → (E → Option (List ℕ)) → Office → (R → Option (List ℕ)) → (W → Option (List ℕ)) → Counted R → Counted R
@@ -263,33 +274,44 @@ LeavesServed net state s found (Ok ended) contents out new_out listened =
     ServesDatabase net state s.office s.existing found ended contents out new_out s.place listened
 LeavesServed net state s found (Err left) contents out new_out listened = ⊥
 
+-- what is known of files, what opens databases in them, and what is seen of the tables there: the state of their store, and their connection
+pub record FileTables (F O S : Type 0) : Type 1 where
+  pub file : disk.Ghosts F
+  pub opens : Opens O F
+  pub state : S → State
+  pub connection : S → Held (FileStore F file)
+
 -- serving ended early, and its store is left as the connections left it; or the database was not opened, its connection is left as
--- opening left it, nothing was printed, and nothing listened
-abbrev pub LeavesBroken : {C N D R V S W : Type 0} → (C → connection.State) → Network N D R V → (S → State) → N → Serving → C → Result S C
-    → (W → Option (List ℕ)) → Counted W → Counted W → (Trouble → Type 0) → Listened N D → Type 0
-LeavesBroken show net state host s found (Ok ended) contents out new_out Told listened =
-    StopsServingDatabase net state s.office s.existing (show found) ended contents out new_out s.place Told listened
-LeavesBroken show net state host s found (Err left) contents out new_out Told listened =
-    (fault : OpenFault) × IsNotOpened s.office s.existing fault (show found) (show left) × (new_out ≡ out) × Told (Database fault)
-    × IsUnheard host listened
+-- opening left it, nothing was printed, and nothing listened; each is told
+abbrev pub LeavesBroken : {F N D R V O S W E : Type 0} → Network N D R V → (files : FileTables F O S) → N → Serving
+    → Held (FileStore F files.file) → Result S (Held (FileStore F files.file)) → (W → Option (List ℕ)) → Counted W → Counted W
+    → (E → Option (List ℕ)) → Counted E → Counted E → Listened N D → Type 0
+LeavesBroken net files host s found (Ok ended) contents out new_out says err new_err listened =
+    StopsServingDatabase net files.state s.office s.existing (file_state found) ended contents out new_out s.place (Tells says err new_err) listened
+LeavesBroken net files host s found (Err left) contents out new_out says err new_err listened =
+    (fault : OpenFault) × IsNotOpened s.office s.existing fault (file_state found) (file_state left) × (new_out ≡ out)
+    × Tells says err new_err (Database fault) × IsUnheard host listened
 
 -- the database of a path was opened, as many connections as were asked for were served over it, and its store was closed as they left it
-abbrev pub ServesOpened : {F N D R V O S W : Type 0} {g : disk.Ghosts F} → (S → State) → (S → Held (FileStore F g)) → Network N D R V → Opens O F
-    → Serving → (W → Option (List ℕ)) → Counted W → Counted W → Left F O g → Listened N D → Type 0
-ServesOpened {F = F} {S = S} {g = g} state conn_of net opens s contents out new_out rest listened =
-    (conn : Held (FileStore F g)) × IsOpenedAt opens s.path s.existing conn
-    × ((ended : Result S (Held (FileStore F g))) × LeavesServed net state s (file_state conn) ended contents out new_out listened
-    × HandsBack state conn_of ended rest)
+abbrev pub ServesOpened : {F N D R V O S W : Type 0} → Network N D R V → (files : FileTables F O S)
+    → Serving → (W → Option (List ℕ)) → Counted W → Counted W → Left F O files.file → Listened N D → Type 0
+ServesOpened {F = F} {S = S} net files s contents out new_out rest listened =
+    (conn : Held (FileStore F files.file)) × IsOpenedAt files.opens s.path s.existing conn
+    × ((ended : Result S (Held (FileStore F files.file))) × LeavesServed net files.state s (file_state conn) ended contents out new_out listened
+    × HandsBack files.state files.connection ended rest)
 
--- serving so ended early: no database could be opened, nothing was printed, and nothing listened; or this was left of it, and closed where it
--- is a store; what is told where one was opened is the last of these
-abbrev pub StopsServingOpened : {F N D R V O S W : Type 0} {g : disk.Ghosts F} → (S → State) → (S → Held (FileStore F g)) → Network N D R V → Opens O F
-    → N → O → Serving → (W → Option (List ℕ)) → Counted W → Counted W → (Trouble → Type 0) → (Trouble → Type 0) → Left F O g → Listened N D → Type 0
-StopsServingOpened {F = F} {S = S} {g = g} state conn_of net opens host opener s contents out new_out Told ToldOpened rest listened =
-    ((fault : OpenFault) × LeavesRefused opens opener s.path s.existing fault rest × (new_out ≡ out) × Told (Database fault) × IsUnheard host listened)
-    ⊎ ((conn : Held (FileStore F g)) × IsOpenedAt opens s.path s.existing conn
-    × ((ended : Result S (Held (FileStore F g))) × LeavesBroken file_state net state host s conn ended contents out new_out ToldOpened listened
-    × HandsBack state conn_of ended rest))
+-- serving so ended early: no database could be opened, nothing was printed, and nothing listened; or, behind whether others may write its
+-- file, this was left of it, and closed where it is a store; each is told
+abbrev pub StopsServing : {F N D R V O S W E : Type 0} → Network N D R V → (files : FileTables F O S)
+    → N → O → Serving → (W → Option (List ℕ)) → Counted W → Counted W → (E → Option (List ℕ)) → Counted E → Counted E
+    → Left F O files.file → Listened N D → Type 0
+StopsServing {F = F} {S = S} {E = E} net files host opener s contents out new_out says err new_err rest listened =
+    ((fault : OpenFault) × LeavesRefused files.opens opener s.path s.existing fault rest × (new_out ≡ out) × Tells says err new_err (Database fault)
+    × IsUnheard host listened)
+    ⊎ ((conn : Held (FileStore F files.file)) × IsOpenedAt files.opens s.path s.existing conn
+    × ((between : Counted E) × Warns files.opens says err between s.path
+    × ((ended : Result S (Held (FileStore F files.file))) × LeavesBroken net files host s conn ended contents out new_out says between new_err listened
+    × HandsBack files.state files.connection ended rest)))
 
 -- but to serve a database, to audit one or to tell of orders over one, words ask to open nothing: the opener is left as it was given
 abbrev pub UsesNothing : {F O : Type 0} {g : disk.Ghosts F} → Asked → O → Left F O g → Type 0

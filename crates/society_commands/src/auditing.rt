@@ -3,7 +3,7 @@ ghost use Rattle.std.specs.Prelude.{◌≡◌, ◌⊎◌, codes, false, true};
 ghost use Rattle.sqlite.specs.Held.{state};
 ghost use Rattle.society_commands.specs.Connections.{FindsSound, FindsUnsound, IsSoundDatabase, TellsUnsound};
 ghost use Rattle.desk_connections.specs.Connections.{Prints};
-ghost use Rattle.society_commands.specs.Troubles.{Tells, TellsDone, TellsOpened};
+ghost use Rattle.society_commands.specs.Troubles.{Tells, TellsDone};
 
 use crate::left::Left;
 use crate::machine::OpenDatabase;
@@ -33,8 +33,7 @@ pub fn audit_file<O: OpenDatabase, W: Write, E: Write>(
     ensures status { (result.0 ≡ 0) ⊎ (result.0 ≡ 1) }
     ensures sound { result.0 ≡ 0 → FindsSound O.OpenDatabase path.now office.now W.contents out.old out.new result.1 }
     ensures quiet { result.0 ≡ 0 → TellsDone O.OpenDatabase E.contents err.old err.new path.now result.1 }
-    ensures err { result.0 ≡ 1 → FindsUnsound O.OpenDatabase opener path.now office.now out.old out.new (Tells E.contents err.old err.new)
-        (TellsOpened O.OpenDatabase E.contents err.old err.new path.now) result.1 }
+    ensures err { result.0 ≡ 1 → FindsUnsound O.OpenDatabase opener path.now office.now out.old out.new E.contents err.old err.new result.1 }
 {
     let database = Database {
         path,

@@ -1,10 +1,9 @@
 //! What orders would credit over a database, told without a word to it.
 ghost use Rattle.std.specs.Prelude.{◌≡◌, ◌⊎◌, IfOk, Ok, false, true};
-ghost use Rattle.credit_listing.specs.Answered.{EndsListing};
 ghost use Rattle.sqlite.specs.Held.{state};
 ghost use Rattle.sqlite.specs.State.{HasCleanDisk};
 ghost use Rattle.society_rows.specs.Between.{between};
-ghost use Rattle.society_commands.specs.Connections.{CreditsOpened, CreditsOver, ShowsStill, ListsEach, ListsOver, StopsCrediting, StopsListing, StopsOver};
+ghost use Rattle.society_commands.specs.Connections.{CreditsOpened, CreditsOver, EndsOver, ShowsStill, ListsEach, StopsCrediting, StopsListing, StopsOver, WhereClean};
 ghost use Rattle.society_commands.specs.Troubles.{TellsDone};
 
 use crate::left::Left;
@@ -94,8 +93,8 @@ fn credit_tables<M: Alter, R: Read, W: Write, E: Write>(
     ensures quiet { result ≡ 0 → err.new ≡ err.old }
     ensures listed { result ≡ 0 → HasCleanDisk (state M.Store conn.new)
         → ListsEach _ E.contents office.now R.remaining W.contents reader.old reader.new out.old out.new (state M.Store conn.old).now.trees }
-    ensures stopped { result ≡ 1 → StopsListing (λ Lists. HasCleanDisk (state M.Store conn.new) → Lists (state M.Store conn.old).now.trees)
-        office.now R.remaining W.contents E.contents reader.old reader.new out.old out.new err.old err.new }
+    ensures stopped { result ≡ 1 → StopsListing (WhereClean (state M.Store conn.old) (state M.Store conn.new)) office.now
+        R.remaining W.contents E.contents reader.old reader.new out.old out.new err.old err.new }
     ensures kept { between M.Store conn.old conn.new ShowsStill }
 {
     let Found::Layout = layout_found(conn) else {
@@ -128,8 +127,8 @@ fn credits_listed<M: Alter, R: Read, W: Write, E: Write>(
     err: &mut Counted<E>,
 ) -> Result<Result<bool, DeskFault>, RowFault>
     ensures quiet { IfOk result (λ listed. listed ≡ Ok true → err.new ≡ err.old) }
-    ensures listed { IfOk result (λ listed. ListsOver (state M.Store conn.old) (state M.Store conn.new)
-        (λ db. EndsListing office.now R.remaining W.contents E.contents reader.old reader.new out.old out.new err.old err.new db listed)) }
+    ensures listed { EndsOver (state M.Store conn.old) (state M.Store conn.new) office.now
+        R.remaining W.contents E.contents reader.old reader.new out.old out.new err.old err.new result }
     ensures kept { between M.Store conn.old conn.new ShowsStill }
 {
     let mut tx = conn.connection.transaction();

@@ -8,10 +8,10 @@ use sqlite_disk::Disk;
 pub enum Left<D: Disk, O> {
     /// What opens a database, as it was given: it was not used.
     Unused(O),
-    /// What was to open a database, and could open no file.
+    /// What was to open a database, as it was given: what is at the path forbade it.
     Unopened(O),
-    /// Files that were refused: no database was opened in them.
-    Refused(Leftover<D>),
+    /// No database could be opened: the files that were refused, or no file could be opened.
+    Refused(Option<Leftover<D>>),
     /// A connection that was not opened as an office's, or was audited.
     Connection(Connection<FileStore<D>>),
     /// The files of an office's tables, which were closed.

@@ -6,6 +6,7 @@
 mod auditing;
 mod closing;
 mod crediting;
+mod file_tables;
 mod left;
 mod listened;
 mod machine;
@@ -15,13 +16,10 @@ mod serving;
 mod starting;
 mod trouble;
 
-pub use auditing::{audit_database, audit_file};
-pub use crediting::credit_file;
+pub use file_tables::FileTables;
 pub use left::Left;
 pub use listened::Listened;
 pub use machine::OpenDatabase;
-pub use opening::{Job, serve_file};
-pub use replaying::{BROKEN_OFF, SERVED, replay};
-pub use serving::serve_store;
+pub use replaying::BROKEN_OFF;
 pub use starting::{NoWords, exit_status, start, why_no_words};
 pub use trouble::{Trouble, tell};

@@ -3,10 +3,11 @@ ghost use Rattle.std.specs.Prelude.{◌≡◌, ◌⊎◌, IfErr, IfOk, OnErr, fa
 ghost use Rattle.sqlite.specs.Files.{file_state};
 ghost use Rattle.sqlite.specs.Held.{state};
 ghost use Rattle.sqlite.specs.Held.{IsNew};
-ghost use Rattle.society_commands.specs.Connections.{IsNotOpened, IsOpenedAt, IsOver, LeavesBroken, LeavesRefused, LeavesServed, ServesOpened, StopsServingOpened, serving_as};
-ghost use Rattle.society_commands.specs.Troubles.{Tells, TellsDone, TellsOpened, Warns};
+ghost use Rattle.society_commands.specs.Connections.{IsNotOpened, IsOpenedAt, IsOver, LeavesBroken, LeavesRefused, LeavesServed, ServesOpened, StopsServing, serving_as};
+ghost use Rattle.society_commands.specs.Troubles.{TellsDone, Warns};
 
 use crate::closing::close_left;
+use crate::file_tables::FileTables;
 use crate::left::Left;
 use crate::listened::Listened;
 use crate::machine::OpenDatabase;
@@ -45,18 +46,17 @@ pub fn serve_file<N: Listen, O: OpenDatabase, W: Write, E: Write>(
     err: &mut Counted<E>,
 ) -> (u8, Left<O::File, O>, Listened<N, N::Door>)
     ensures status { (result.0 ≡ 0) ⊎ (result.0 ≡ 1) }
-    ensures served { result.0 ≡ 0 → ServesOpened ⟦<Tables<FileStore<O::File>> as Store>⟧.state (λ t. t.conn) ⟦<N as Network>⟧.network
-        O.OpenDatabase (serving_as job.entry office.now) W.contents out.old out.new result.1 result.2 }
+    ensures served { result.0 ≡ 0 → ServesOpened ⟦<N as Network>⟧.network ⟦<O as FileTables>⟧.files (serving_as job.entry office.now)
+        W.contents out.old out.new result.1 result.2 }
     ensures quiet { result.0 ≡ 0 → TellsDone O.OpenDatabase E.contents err.old err.new job.entry.database.path.now result.1 }
     // Nothing is printed where the database is not opened, or nothing can be listened on; else fewer connections came. In each case
     // the clause names what is left of the database.
-    ensures broken_off { result.0 ≡ 1 → StopsServingOpened ⟦<Tables<FileStore<O::File>> as Store>⟧.state (λ t. t.conn) ⟦<N as Network>⟧.network
-        O.OpenDatabase net opener (serving_as job.entry office.now) W.contents out.old out.new (Tells E.contents err.old err.new)
-        (TellsOpened O.OpenDatabase E.contents err.old err.new job.entry.database.path.now) result.1 result.2 }
+    ensures broken_off { result.0 ≡ 1 → StopsServing ⟦<N as Network>⟧.network ⟦<O as FileTables>⟧.files net opener
+        (serving_as job.entry office.now) W.contents out.old out.new E.contents err.old err.new result.1 result.2 }
 {
     match open_there(opener, job.database, err) {
         Ok(connection) => {
-            let (status, left, listened) = serve_database(
+            let (status, left, listened) = serve_database::<N, O, W, E>(
                 net, alloc, connection, job, office, out, err,
             );
             (status, close_left(left, status, err), listened)
@@ -100,22 +100,26 @@ pub(crate) fn open_there<O: OpenDatabase, E: Write>(
 
 /// Opens a database as the office's, and serves so many connections over it. Answers the exit status as `serve_file`, and hands back
 /// the tables, as the last request left them, or the connection where the office was not opened, and what is left of the network.
-fn serve_database<N: Listen, M: Alter, W: Write, E: Write>(
+fn serve_database<N: Listen, O: OpenDatabase, W: Write, E: Write>(
     net: N,
     alloc: Global,
-    connection: Connection<M>,
+    connection: Connection<FileStore<O::File>>,
     job: Job<'_>,
     office: &Office,
     out: &mut Counted<W>,
     err: &mut Counted<E>,
-) -> (u8, Result<Tables<M>, Connection<M>>, Listened<N, N::Door>)
+) -> (
+    u8,
+    Result<Tables<FileStore<O::File>>, Connection<FileStore<O::File>>>,
+    Listened<N, N::Door>,
+)
     requires { connection.in_transaction ≡ false }
     ensures status { (result.0 ≡ 0) ⊎ (result.0 ≡ 1) }
-    ensures served { result.0 ≡ 0 → LeavesServed ⟦<N as Network>⟧.network ⟦<Tables<M> as Store>⟧.state (serving_as job.entry office.now)
-        (state M.Store connection) result.1 W.contents out.old out.new result.2 }
+    ensures served { result.0 ≡ 0 → LeavesServed ⟦<N as Network>⟧.network ⟦<O as FileTables>⟧.files.state (serving_as job.entry office.now)
+        (file_state connection) result.1 W.contents out.old out.new result.2 }
     ensures quiet { result.0 ≡ 0 → err.new ≡ err.old }
-    ensures broken_off { result.0 ≡ 1 → LeavesBroken (state M.Store) ⟦<N as Network>⟧.network ⟦<Tables<M> as Store>⟧.state
-        net (serving_as job.entry office.now) connection result.1 W.contents out.old out.new (Tells E.contents err.old err.new) result.2 }
+    ensures broken_off { result.0 ≡ 1 → LeavesBroken ⟦<N as Network>⟧.network ⟦<O as FileTables>⟧.files net
+        (serving_as job.entry office.now) connection result.1 W.contents out.old out.new E.contents err.old err.new result.2 }
 {
     match open_tables(alloc, connection, job.database.existing, office) {
         Ok(tables) => {

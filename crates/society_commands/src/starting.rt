@@ -4,16 +4,17 @@ ghost use Rattle.std.specs.IoError.{error_kind};
 ghost use Rattle.clap.specs.Words.{kind_of};
 ghost use Rattle.clap.specs.declared.error.kind.ErrorKind.TheVariants.{DisplayHelp, OutOfMemory};
 ghost use Rattle.http_desk.specs.Serves.{KeepsTurns, NeitherFails};
-ghost use Rattle.society_commands.specs.Connections.{CreditsOpened, ListsEach, FindsSound, FindsUnsound, ServesOpened, StopsCrediting, StopsServingOpened, IsUnheard, IsUnused, ListensNowhere, ReadsNothing, UsesNothing};
+ghost use Rattle.society_commands.specs.Connections.{CreditsOpened, ListsEach, FindsSound, FindsUnsound, ServesOpened, StopsCrediting, StopsServing, IsUnheard, IsUnused, ListensNowhere, ReadsNothing, UsesNothing};
 ghost use Rattle.society_commands.specs.Replays.{Replays, BreaksOff};
 ghost use Rattle.desk_connections.specs.Faults.{most_turns};
 ghost use Rattle.society_commands.specs.Refusals.{status_after, no_words_by, status_without};
 ghost use Rattle.desk_connections.specs.Connections.{Prints};
-ghost use Rattle.society_commands.specs.Troubles.{Tells, TellsAtEnd, TellsOpened, TellsQuietly, TellsWithout, refused_line};
+ghost use Rattle.society_commands.specs.Troubles.{Tells, TellsAtEnd, TellsQuietly, TellsWithout, refused_line};
 ghost use Rattle.society_arguments.specs.Words.{AsksHelp, EndsAudit, EndsCredit, EndsReplay, EndsServing, HasBadName, IsWrong, WantsReplay, asks};
 
 use crate::auditing::audit_file;
 use crate::crediting::credit_file;
+use crate::file_tables::FileTables;
 use crate::left::Left;
 use crate::listened::Listened;
 use crate::machine::OpenDatabase;
@@ -25,9 +26,6 @@ use clap::error::ErrorKind as ClapKind;
 use desk_connections::{Listen, Network, print};
 use http_desk::{Counted, DeskFault, FaultKind};
 use society_arguments::{Words, words_in};
-use society_core::Store;
-use society_tables::Tables;
-use sqlite::FileStore;
 use std::alloc::Global;
 use std::io::{self, ErrorKind, Read, Write};
 
@@ -79,20 +77,18 @@ pub fn start<N: Listen, O: OpenDatabase, R: Read, W: Write, E: Write>(
     // No failure is passed over, and each read was needed.
     ensures kept { EndsReplay (asks words.now) 0 result.0 (λ office. NeitherFails reader.old reader.new out.old out.new) }
     ensures turns { WantsReplay (asks words.now) → IfOk result.0 (λ status. KeepsTurns R.remaining reader.old reader.new most_turns) }
-    ensures served { EndsServing (asks words.now) 0 result.0 (λ s. ServesOpened
-        ⟦<Tables<FileStore<O::File>> as Store>⟧.state (λ t. t.conn) ⟦<N as Network>⟧.network O.OpenDatabase s W.contents out.old out.new result.1 result.2) }
-    ensures stopped { EndsServing (asks words.now) 1 result.0 (λ s. StopsServingOpened
-        ⟦<Tables<FileStore<O::File>> as Store>⟧.state (λ t. t.conn) ⟦<N as Network>⟧.network O.OpenDatabase net opener s W.contents out.old out.new
-        (Tells E.contents err.old err.new) (TellsOpened O.OpenDatabase E.contents err.old err.new s.path) result.1 result.2) }
+    ensures served { EndsServing (asks words.now) 0 result.0 (λ s.
+        ServesOpened ⟦<N as Network>⟧.network ⟦<O as FileTables>⟧.files s W.contents out.old out.new result.1 result.2) }
+    ensures stopped { EndsServing (asks words.now) 1 result.0 (λ s. StopsServing
+        ⟦<N as Network>⟧.network ⟦<O as FileTables>⟧.files net opener s W.contents out.old out.new E.contents err.old err.new result.1 result.2) }
     ensures sound { EndsAudit (asks words.now) 0 result.0 (λ path office.
         FindsSound O.OpenDatabase path office W.contents out.old out.new result.1) }
     ensures unsound { EndsAudit (asks words.now) 1 result.0 (λ path office.
-        FindsUnsound O.OpenDatabase opener path office out.old out.new (Tells E.contents err.old err.new)
-        (TellsOpened O.OpenDatabase E.contents err.old err.new path) result.1) }
+        FindsUnsound O.OpenDatabase opener path office out.old out.new E.contents err.old err.new result.1) }
     ensures credited { EndsCredit (asks words.now) 0 result.0 (λ path office. CreditsOpened O.OpenDatabase path office 0
         (ListsEach _ E.contents office R.remaining W.contents reader.old reader.new out.old out.new) result.1) }
-    ensures uncredited { EndsCredit (asks words.now) 1 result.0 (λ path office.
-        StopsCrediting O.OpenDatabase opener path office R.remaining W.contents E.contents reader.old reader.new out.old out.new err.old err.new result.1) }
+    ensures uncredited { EndsCredit (asks words.now) 1 result.0 (λ at office.
+        StopsCrediting O.OpenDatabase opener at office R.remaining W.contents E.contents reader.old reader.new out.old out.new err.old err.new result.1) }
 {
     match words_in(alloc, words) {
         Ok(Words::Replay(office)) => {

@@ -2,7 +2,7 @@
 use Rattle.std.specs.Prelude.{◌≡◌, ◌≢◌, ◌⊎◌, ℕ, ◌<◌, ◌≤◌, IsTrue, List, length, slice_index, take}
 use Rattle.log_reading.specs.Stands.{Stands}
 use Rattle.log_reading.specs.declared.source.ReadAt.{Ghosts as Reads}
-use Rattle.society_host.specs.Refusals.{IsUnread, file_header}
+use Rattle.society_host.specs.Refusals.{IsUnread, fault_by_start, file_header}
 use Rattle.society_host.specs.declared.reading.ReadFiles.{Ghosts}
 use Rattle.society_opening.specs.declared.open_fault.OpenFault.{OpenFault}
 use Rattle.society_opening.specs.declared.open_fault.OpenFault.TheVariants as fault
@@ -36,10 +36,28 @@ pub record TellsStanding (Known Holds : Type 0) (told : OpenFault) : Type 0 wher
   pub store : told ≡ fault.Store → ¬ Known
   pub kind : (told ≡ fault.Memory) ⊎ ((told ≡ fault.Store) ⊎ (told ≡ fault.Log))
 
+-- memory was refused, or the file of a database or its log could not be read
+abbrev pub IsToldUnread : {M F : Type 0} → Ghosts M F → Reads F → List ℕ → OpenFault → Type 0
+IsToldUnread {F = F} g reads path =
+    IsUnread (g.fails_to_read path
+    ⊎ (((file : F) × (g.is_file path file ⊎ g.is_log path file) × ¬ IsTrue (reads.is_known file))
+    ⊎ ((db : F) × (log : F) × g.is_file path db × g.is_log path log × ¬ AreKnown reads log db)))
+
 -- Why a database whose file and log were read is not opened: a log that no stop of the office leaves so, a file with no table and no page sums,
 -- or that they could not be read.
 abbrev pub IsToldExamined : {M F : Type 0} → Ghosts M F → Reads F → List ℕ → OpenFault → Type 0
 IsToldExamined {F = F} g reads path told =
-    IsUnread told
+    IsToldUnread g reads path told
     ⊎ (((told ≡ fault.Log) × ((db : F) × (log : F) × g.is_file path db × g.is_log path log × (AreKnown reads log db → ¬ Stands (reads.bytes log) (reads.bytes db))))
     ⊎ ((told ≡ fault.Empty) × ((db : F) × g.is_file path db × (IsTrue (reads.is_known db) → HasNoTable (reads.bytes db)))))
+
+-- what is told of a file in which no database was found: by its first bytes, sixteen or all that it has; or it could not be read
+abbrev pub IsToldOf : {F : Type 0} → Reads F → F → OpenFault → Type 0
+IsToldOf reads file told =
+    ((told ≡ fault.Store) × ¬ IsTrue (reads.is_known file))
+    ⊎ ((start : List ℕ) × (told ≡ fault_by_start start) × (IsTrue (reads.is_known file) → start ≡ take 16 (reads.bytes file)))
+
+-- what is told of what is at a path where no database was found: by the file there; or there is none, or it could not be read
+abbrev pub IsToldNone : {M F : Type 0} → Ghosts M F → Reads F → List ℕ → OpenFault → Type 0
+IsToldNone {F = F} g reads path told =
+    IsToldUnread g reads path told ⊎ (((told ≡ fault.Store) × g.lacks_file path) ⊎ ((file : F) × g.is_file path file × IsToldOf reads file told))

@@ -11,7 +11,7 @@ use Rattle.sqlite_wal.specs.Recovery.{Image}
 use Rattle.sqlite.specs.declared.error.Error.{Error}
 use Rattle.log_reading.specs.declared.source.ReadAt.{Ghosts as Reads}
 use Rattle.society_opening.specs.declared.open_fault.OpenFault.{OpenFault}
-use Rattle.society_host.specs.Examined.{IsExamined, IsToldExamined}
+use Rattle.society_host.specs.Examined.{IsExamined, IsToldExamined, IsToldNone}
 use Rattle.society_host.specs.Looks.{ArePrivate, FailsToFind, FindsAt}
 use Rattle.society_host.specs.Refusals.{FaultsAs}
 use Rattle.society_host.specs.declared.machine.Machine.{Ghosts as Machine}
@@ -31,7 +31,10 @@ pub record IsOpenedSo {M R F : Type 0} {g : Ghosts F} (m : Machine M) (files : F
   pub opened : m.is_opened path
   pub found : IsFoundIn image conn
 
--- why a database is not opened at a path: looks failed, what was read of it forbids it, or opening it failed
+-- why a database may not be opened at a path: looks failed, or what was read of it forbids it
+abbrev pub WhyForbidden : {M R : Type 0} → Machine M → Files M R → Reads R → List ℕ → OpenFault → Type 0
+WhyForbidden m files reads path told = FailsToFind m path told ⊎ IsToldExamined files reads path told
+
+-- why one could not be opened there: by the error with which opening it failed
 abbrev pub WhyUnopened : {M R : Type 0} → Machine M → Files M R → Reads R → List ℕ → OpenFault → Type 0
-WhyUnopened m files reads path told =
-    FailsToFind m path told ⊎ (IsToldExamined files reads path told ⊎ ((error : Error) × m.fails_to_open path error × FaultsAs error told))
+WhyUnopened m files reads path told = (error : Error) × m.fails_to_open path error × FaultsAs (IsToldNone files reads path) error told

@@ -2,6 +2,7 @@
 ghost use Rattle.std.specs.Prelude.{◌≡◌, ◌↔◌, ◌<◌, length, IfErr, IfOk, IsTrue, OnOk};
 ghost use Rattle.log_reading.specs.Stands.{Stands};
 ghost use Rattle.society_host.specs.Examined.{HasNoTable, IsExamined, IsToldExamined, TellsStanding};
+ghost use Rattle.society_host.specs.Refusals.{IsUnread};
 
 use crate::files::HEADER;
 use crate::reading::ReadFiles;
@@ -74,7 +75,7 @@ fn stands<L: ReadAt, D: ReadAt>(alloc: Global, log: &L, db: &D) -> Result<(), Op
 /// Whether a log is too short to have a page.
 fn is_short<L: ReadAt>(log: &L) -> Result<bool, OpenFault>
     ensures ok { IfOk result (λ short. IsTrue (L.is_known log.now) → (IsTrue short ↔ (length (L.bytes log.now) < 56))) }
-    ensures err { IfErr result (λ e. e ≡ OpenFault.Store) }
+    ensures err { IfErr result (IsUnread (IsTrue (L.is_known log.now) → ⊥)) }
 {
     let Ok(len) = log.len() else {
         return Err(OpenFault::Store);
@@ -85,7 +86,7 @@ fn is_short<L: ReadAt>(log: &L) -> Result<bool, OpenFault>
 /// Whether a file is a database with no table and no page sums.
 fn is_bare<D: ReadAt>(db: &D) -> Result<bool, OpenFault>
     ensures ok { IfOk result (λ bare. IsTrue (D.is_known db.now) → (IsTrue bare ↔ HasNoTable (D.bytes db.now))) }
-    ensures err { IfErr result (λ e. e ≡ OpenFault.Store) }
+    ensures err { IfErr result (IsUnread (IsTrue (D.is_known db.now) → ⊥)) }
 {
     let Ok(len) = db.len() else {
         return Err(OpenFault::Store);

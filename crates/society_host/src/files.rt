@@ -1,9 +1,9 @@
 //! The files of a machine that hold a database.
 ghost use Rattle.std.specs.Prelude.{◌≡◌, ◌⊎◌, IfErr, IfOk, IfSome, None, false, string_bytes, true};
-ghost use Rattle.society_commands.specs.declared.left.Left.TheVariants.{Refused, Unopened};
 ghost use Rattle.sqlite_std_file.specs.File.{IsFresh};
 ghost use Rattle.sqlite_wal.specs.Files.{image_at};
-ghost use Rattle.society_host.specs.Found.{IsOpenedSo, WhyUnopened};
+ghost use Rattle.society_host.specs.Examined.{IsToldNone, IsToldOf};
+ghost use Rattle.society_host.specs.Found.{IsOpenedSo, WhyForbidden, WhyUnopened};
 ghost use Rattle.society_host.specs.Looks.{ArePrivate, AreSeen, FailsBeside, FailsToFind, FindsAt, LacksPages, log_path};
 ghost use Rattle.society_host.specs.Refusals.{FaultsAs, RefusesFiles, fault_by_start, is_absent, presence_by_log};
 
@@ -31,8 +31,8 @@ const NEW_HAS_SUMS: bool = true;
 #[derive(Drop)]
 pub struct HostFiles<S: Start, M, O> {
     machine: M,
-    opener: Option<O>,
-    found: Option<S>,
+    opener: O,
+    found: S,
 }
 
 impl<S: Start, M: OpensFiles<O> + ReadFiles + Copy, O> HostFiles<S, M, O> {
@@ -40,8 +40,8 @@ impl<S: Start, M: OpensFiles<O> + ReadFiles + Copy, O> HostFiles<S, M, O> {
     pub fn new(machine: M, opener: O, found: S) -> HostFiles<S, M, O> {
         HostFiles {
             machine,
-            opener: Some(opener),
-            found: Some(found),
+            opener,
+            found,
         }
     }
 }
@@ -58,8 +58,8 @@ impl<S: Start, M: OpensFiles<O> + ReadFiles + Copy, O> OpenDatabase for HostFile
 
     ghost may_fail = { λ path fault. FailsToFind M.Machine path fault };
 
-    ghost may_refuse = { λ g path fault rest. RefusesFiles (WhyUnopened M.Machine M.ReadFiles M.File.ReadAt path)
-        (λ files. IsFresh true files.log × IsFresh false files.db) fault rest };
+    ghost may_refuse = { λ g path fault rest. RefusesFiles (WhyForbidden M.Machine M.ReadFiles M.File.ReadAt path)
+        (WhyUnopened M.Machine M.ReadFiles M.File.ReadAt path) (λ files. IsFresh true files.log × IsFresh false files.db) fault rest };
 
     fn has_database(&self, path: &str) -> Result<bool, OpenFault> {
         look(&self.machine, path)
@@ -81,54 +81,18 @@ impl<S: Start, M: OpensFiles<O> + ReadFiles + Copy, O> OpenDatabase for HostFile
             Ok(()) => {}
             Err(fault) => return Err((fault, Left::Unopened(self))),
         }
-        let (machine, opener, found) = match self.into_parts() {
-            Ok(parts) => parts,
-            Err(used) => return Err((OpenFault::Store, Left::Unopened(used))),
-        };
-        match machine.open_at(opener, path, NEW_HAS_SUMS, found) {
-            Ok(connection) => {
-                let others_write = guard(&machine, path, log.as_str(), was_there);
-                Ok((connection, others_write))
-            }
-            Err((error, left)) => Err((fault_at(&machine, path, &error), rest_of(machine, left))),
-        }
-    }
-}
-
-impl<S: Start, M, O> HostFiles<S, M, O> {
-    // The machine, what opens on it, and what stands for what the file holds; or itself, where that was used.
-    fn into_parts(self) -> Result<(M, O, S), Self> {
         let HostFiles {
             machine,
             opener,
             found,
         } = self;
-        match (opener, found) {
-            (Some(opener), Some(found)) => Ok((machine, opener, found)),
-            (opener, found) => Err(HostFiles {
-                machine,
-                opener,
-                found,
-            }),
+        match machine.open_at(opener, path, NEW_HAS_SUMS, found) {
+            Ok(connection) => {
+                let others_write = guard(&machine, path, log.as_str(), was_there);
+                Ok((connection, others_write))
+            }
+            Err((error, left)) => Err((fault_at(&machine, path, &error), Left::Refused(left))),
         }
-    }
-}
-
-/// What is left where a database was refused: its files, or what could open none.
-fn rest_of<S: Start, M: Copy, O>(
-    machine: M,
-    left: Option<Leftover<FileFrom<S>>>,
-) -> Left<FileFrom<S>, HostFiles<S, M, O>>
-    ensures files { IfSome left (λ files. result ≡ Refused files) }
-    ensures none { left ≡ None → (opener : _) × (result ≡ Unopened opener) }
-{
-    match left {
-        Some(files) => Left::Refused(files),
-        None => Left::Unopened(HostFiles {
-            machine,
-            opener: None,
-            found: None,
-        }),
     }
 }
 
@@ -211,7 +175,7 @@ fn is_absent(kind: ErrorKind) -> bool
 /// What an error of opening the database at a path says. Where SQLite finds no database in the files, the file's first bytes tell whether
 /// it was one.
 fn fault_at<M: ReadFiles>(machine: &M, path: &str, error: &Error) -> OpenFault
-    ensures { FaultsAs error.now result }
+    ensures { FaultsAs (IsToldNone M.ReadFiles M.File.ReadAt path.now) error.now result }
 {
     match error {
         Error::SqliteFailure(ErrorCode::OutOfMemory) => OpenFault::Memory,
@@ -222,20 +186,29 @@ fn fault_at<M: ReadFiles>(machine: &M, path: &str, error: &Error) -> OpenFault
 }
 
 /// What is said of a file in which SQLite finds no database: it is damaged where it begins as one, or has no byte and so all that was
-/// written to it in its log; else it is none.
+/// written to it in its log; else it is none. `Memory` where memory was refused.
 fn no_database<M: ReadFiles>(machine: &M, path: &str) -> OpenFault
-    ensures { (result ≡ OpenFault.Damaged) ⊎ (result ≡ OpenFault.Store) }
+    ensures { IsToldNone M.ReadFiles M.File.ReadAt path.now result }
 {
-    let Ok(Some(file)) = machine.file_at(path) else {
-        return OpenFault::Store;
+    let file = match machine.file_at(path) {
+        Ok(Some(file)) => file,
+        Ok(None) => return OpenFault::Store,
+        Err(fault) => return fault,
     };
+    fault_of_file(&file)
+}
+
+/// What is said of such a file, which may not be read.
+fn fault_of_file<D: ReadAt>(file: &D) -> OpenFault
+    ensures { IsToldOf D.ReadAt file.now result }
+{
     let Ok(len) = file.len() else {
         return OpenFault::Store;
     };
     let mut first = [0; HEADER.len()];
-    let count = len.min(HEADER.len());
-    match file.read_at(0, &mut first[..count]) {
-        Ok(()) => fault_by_start(&first[..count]),
+    let start = &mut first[..len.min(HEADER.len())];
+    match file.read_at(0, start) {
+        Ok(()) => fault_by_start(start),
         Err(_) => OpenFault::Store,
     }
 }

@@ -20,13 +20,16 @@ pub trait ReadFiles {
 
     ghost lacks_log: { List ℕ → Type 0 };
 
+    /// What is at a path, or its log, can't be opened to be read.
+    ghost fails_to_read: { List ℕ → Type 0 };
+
     /// The file of the database at a path, if there is one. `Store` where it can't be read, `Memory` where memory was refused.
     fn file_at(&self, path: &str) -> Result<Option<Self::File>, OpenFault>
         ensures found { IfOk result (λ found. MatchOption found (lacks_file path.now) (is_file path.now)) }
-        ensures failed { IfErr result IsUnread };
+        ensures failed { IfErr result (IsUnread (fails_to_read path.now)) };
 
     /// The log of the database at a path, beside the file to which a link there leads, if there is one. The error is as that of `file_at`.
     fn log_at(&self, path: &str) -> Result<Option<Self::File>, OpenFault>
         ensures found { IfOk result (λ found. MatchOption found (lacks_log path.now) (is_log path.now)) }
-        ensures failed { IfErr result IsUnread };
+        ensures failed { IfErr result (IsUnread (fails_to_read path.now)) };
 }

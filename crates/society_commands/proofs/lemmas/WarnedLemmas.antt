@@ -5,33 +5,16 @@ use Rattle.std.specs.Prelude.{IfOk, IsErr}
 use Rattle.clap.specs.declared.error.kind.ErrorKind.{ErrorKind}
 use Rattle.clap.specs.declared.error.kind.ErrorKind.TheVariants.{OutOfMemory}
 use Rattle.http_desk.specs.declared.counted.Counted.{Counted}
-use Rattle.society_core.specs.State.{State}
-use Rattle.sqlite.specs.State as connection
 use Rattle.share_rules.specs.declared.office.Office.{Office}
 use Rattle.sqlite_disk.specs.declared.Disk.{Ghosts}
-use Rattle.society_arguments.specs.Words.{Asked, AsksAudit, AsksCredit, AsksHelp, AsksReplay, AsksServe, HasBadName, HasBadWords, IsReadAs, IsRefusedAs, Serving}
+use Rattle.society_arguments.specs.Words.{Asked, AsksAudit, AsksCredit, AsksHelp, AsksReplay, AsksServe, HasBadName, HasBadWords, IsReadAs, IsRefusedAs}
 use Rattle.society_arguments.specs.declared.words.Database.{Database}
 use Rattle.society_arguments.specs.declared.words.Listening.{Listening}
 use Rattle.society_arguments.specs.declared.words.Words.TheVariants as words
-use Rattle.desk_connections.specs.Doors.{Network}
-use Rattle.society_commands.specs.Connections.{LeavesBroken}
 use Rattle.society_commands.specs.Troubles.{TellsDone, TellsQuietly}
 use Rattle.society_commands.specs.declared.left.Left.{Left}
 use Rattle.society_commands.specs.declared.machine.OpenDatabase.{Ghosts as Opens}
 use Rattle.society_commands.specs.declared.starting.NoWords.{NoWords}
-use Rattle.society_commands.specs.declared.listened.Listened.{Listened}
-use Rattle.society_commands.specs.declared.trouble.Trouble.{Trouble}
-
--- what was told so was told otherwise too
-pub broken_behind : {C N D R V S W : Type 0} (net : Network N D R V) (state : S → State) (show : C → connection.State) (host : N) (s : Serving) (found : C) (ended : Result S C)
-    (contents : W → Option (List ℕ)) (out new_out : Counted W) (Told ToldOpened : Trouble → Type 0) → ((trouble : Trouble) → Told trouble → ToldOpened trouble) → (listened : Listened N D)
-    → LeavesBroken show net state host s found ended contents out new_out Told listened → LeavesBroken show net state host s found ended contents out new_out ToldOpened listened
-broken_behind net state show host s found (Ok ended) contents out new_out Told ToldOpened more listened (begun, over, inl (none, same, kept, told, left)) =
-    (begun, over, inl (none, same, kept, more _ told, left))
-broken_behind net state show host s found (Ok ended) contents out new_out Told ToldOpened more listened (begun, over, inr (count, fewer, serves, told)) =
-    (begun, over, inr (count, fewer, serves, more _ told))
-broken_behind net state show host s found (Err left) contents out new_out Told ToldOpened more listened (fault, not_opened, same, told, unheard) =
-    (fault, not_opened, same, more _ told, unheard)
 
 -- what is told of the database that words name, where all that they ask for is done
 module _ {D O E : Type 0} {g : Ghosts D} (opens : Opens O D) (contents : E → Option (List ℕ)) (err new_err : Counted E) (rest : Left D O g) where

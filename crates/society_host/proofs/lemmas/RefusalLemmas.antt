@@ -1,5 +1,5 @@
 -- Files in which no database was opened are refused for what the kit says of them.
-use Rattle.std.proofs.Common.{◌≡◌, ◌⊎◌, None, Option, Some, inl, inr, refl, subst, sym}
+use Rattle.std.proofs.Common.{◌≡◌, ◌⊎◌, None, Option, Some, inl, inr, subst}
 use Rattle.std.specs.Prelude.{IfSome}
 use Rattle.sqlite.specs.Files.{FailsToOpenFiles, IsCleanLeft, LeavesFiles, faults_left, faults_of, image_of}
 use Rattle.sqlite.specs.declared.error.Error.{Error}
@@ -7,9 +7,7 @@ use Rattle.sqlite.specs.declared.file.Leftover.{Leftover}
 use Rattle.sqlite_disk.specs.Disk.{MoreFaults}
 use Rattle.sqlite_disk.specs.declared.Disk.{Ghosts}
 use Rattle.sqlite_disk.specs.declared.Files.{Files}
-use Rattle.society_host.specs.Refusals.{FaultsAs, HoldsNone, RefusesFiles}
-use Rattle.society_commands.specs.declared.left.Left.{Left}
-use Rattle.society_commands.specs.declared.left.Left.TheVariants.{Refused, Unopened}
+use Rattle.society_host.specs.Refusals.{FaultsAs, HoldsNone, LeavesRefusedFiles}
 use Rattle.society_opening.specs.declared.open_fault.OpenFault.{OpenFault}
 use Rattle.society_opening.specs.declared.open_fault.OpenFault.TheVariants as fault
 
@@ -19,29 +17,19 @@ no_memory told memory damaged = cc
 no_store : (told : OpenFault) → told ≡ fault.Store → told ≡ fault.Damaged → ⊥
 no_store told store damaged = cc
 
-module _ {D : Type 0} {g : Ghosts D} where
+module _ {D : Type 0} {g : Ghosts D} (IsToldNone : OpenFault → Type 0) where
   -- damage is told for what the files held, or since the disk failed
-  damage : (files : Files D) (left : Leftover D g) (e : Error) (told : OpenFault) → FaultsAs e told → FailsToOpenFiles files left e → told ≡ fault.Damaged
+  damage : (files : Files D) (left : Leftover D g) (e : Error) (told : OpenFault) → FaultsAs IsToldNone e told → FailsToOpenFiles files left e → told ≡ fault.Damaged
       → HoldsNone (image_of g files) ⊎ MoreFaults (faults_of g files) (faults_left left)
-  damage files left e told as_told (inl memory) damaged = absurd (no_memory told (subst (λ (x : Error). FaultsAs x told) memory as_told) damaged)
+  damage files left e told as_told (inl memory) damaged = absurd (no_memory told (subst (λ (x : Error). FaultsAs IsToldNone x told) memory as_told) damaged)
   damage files left e told as_told (inr (inl none)) damaged = inl none.1
   damage files left e told as_told (inr (inr (inl failed))) damaged = inr failed.1
-  damage files left e told as_told (inr (inr (inr full))) damaged = absurd (no_store told (subst (λ (x : Error). FaultsAs x told) full.0 as_told) damaged)
+  damage files left e told as_told (inr (inr (inr full))) damaged = absurd (no_store told (subst (λ (x : Error). FaultsAs IsToldNone x told) full.0 as_told) damaged)
 
   -- what the kit says of an opening that failed is what is said of a refusal
-  pub refuses : (Tells : Type 0) (Log Base : D → Type 0) (left : Leftover D g) (e : Error) (told : OpenFault) → Tells → FaultsAs e told
-      → (files : Files D) × Log files.log × Base files.db × (IsCleanLeft left → FailsToOpenFiles files left e × LeavesFiles files left)
-      → Tells × ((files : Files D) × (Log files.log × Base files.db)
-      × (IsCleanLeft left → (told ≡ fault.Damaged → HoldsNone (image_of g files) ⊎ MoreFaults (faults_of g files) (faults_left left)) × LeavesFiles files left))
-  refuses Tells Log Base left e told is as_told some =
-      (is, (some.0, (some.1, some.2), λ clean. (damage some.0 left e told as_told (some.3 clean).0, (some.3 clean).1)))
-
-  -- of what is left of it
-  pub refuses_rest : {O : Type 0} (Tells : OpenFault → Type 0) (Log Base : D → Type 0) (e : Error) (told : OpenFault) (left : Option (Leftover D g)) (rest : Left D O g)
-      → IfSome left (λ files. rest ≡ Refused files) → (left ≡ None → (opener : O) × (rest ≡ Unopened opener)) → Tells told → FaultsAs e told
+  pub refuses : (Fails : OpenFault → Type 0) (Log Base : D → Type 0) (e : Error) (told : OpenFault) (left : Option (Leftover D g)) → Fails told → FaultsAs IsToldNone e told
       → IfSome left (λ files. (held : Files D) × Log held.log × Base held.db × (IsCleanLeft files → FailsToOpenFiles held files e × LeavesFiles held files))
-      → RefusesFiles Tells (λ files. Log files.log × Base files.db) told rest
-  refuses_rest {O} Tells Log Base e told None rest some none tells as_told cause =
-      subst (λ (l : Left D O g). RefusesFiles Tells (λ files. Log files.log × Base files.db) told l) (sym (none refl).1) tells
-  refuses_rest {O} Tells Log Base e told (Some files) rest some none tells as_told cause =
-      subst (λ (l : Left D O g). RefusesFiles Tells (λ held. Log held.log × Base held.db) told l) (sym some) (refuses (Tells told) Log Base files e told tells as_told cause)
+      → LeavesRefusedFiles Fails (λ files. Log files.log × Base files.db) told left
+  refuses Fails Log Base e told None fails as_told cause = fails
+  refuses Fails Log Base e told (Some left) fails as_told some =
+      (fails, (some.0, (some.1, some.2), λ clean. (damage some.0 left e told as_told (some.3 clean).0, (some.3 clean).1)))

@@ -1,7 +1,8 @@
-use Rattle.std.proofs.Common.{◌∙◌, inr, subst, sym}
+use Rattle.std.proofs.Common.{◌∙◌, inl, subst, sym}
+use Rattle.society_host.specs.Examined.{IsToldNone}
 use Rattle.society_host.specs.Found.{WhyUnopened}
 use Rattle.society_host.proofs.lemmas.LookLemmas.{lacks_by, looked_by}
-use Rattle.society_host.proofs.lemmas.RefusalLemmas.{refuses_rest}
+use Rattle.society_host.proofs.lemmas.RefusalLemmas.{refuses}
 use Rattle.society_host.proofs.files.HostFilesOpenDatabase.open_database.Goals as goal
 
 pub guard-others_write-requires : goal.guard-others_write-requires
@@ -23,7 +24,10 @@ returns-in-Ok-open_at-clause-opened g c = record {
       };
 }
 
+pub returns-in-Err-look-clause-refused : goal.returns-in-Err-look-clause-refused
+returns-in-Err-look-clause-refused g c = inl c.in-Err-look.ensures.failed
+
 pub returns-clause-refused : goal.returns-clause-refused
 returns-clause-refused g c =
-    refuses_rest (WhyUnopened g.M.Machine g.M.ReadFiles g.M.File.ReadAt c.args.path.now) _ _ c.in-Err-open_at.error c.fault_at.result c.in-Err-open_at.left c.rest_of.result c.rest_of.ensures.files c.rest_of.ensures.none
-    (inr (inr (c.in-Err-open_at.error, c.in-Err-open_at.ensures.failed, c.fault_at.ensures))) c.fault_at.ensures c.in-Err-open_at.ensures.cause
+    refuses (IsToldNone g.M.ReadFiles g.M.File.ReadAt c.args.path.now) (WhyUnopened g.M.Machine g.M.ReadFiles g.M.File.ReadAt c.args.path.now) _ _ c.in-Err-open_at.error c.fault_at.result c.in-Err-open_at.left
+    (c.in-Err-open_at.error, c.in-Err-open_at.ensures.failed, c.fault_at.ensures) c.fault_at.ensures c.in-Err-open_at.ensures.cause
