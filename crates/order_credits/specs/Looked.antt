@@ -16,7 +16,7 @@ use Rattle.society_core.specs.declared.claim_list.Candidate.{Candidate}
 use Rattle.society_core.specs.declared.transmission_key.TransmissionKey.{TransmissionKey}
 use Rattle.society_book.specs.Sources.{HoldsWorks}
 use Rattle.sqlite_trees.specs.Tree.{Trees}
-use Rattle.order_credits.specs.Shares.{Played, is_wanted, owner_at_cut, revision_at_cut, share_of, shares_by, shares_of, shares_wanted}
+use Rattle.order_credits.specs.Shares.{Played, is_wanted, owner_at_cut, revision_at_cut, recording_share, recording_shares_by, recording_shares, shares_wanted}
 use Rattle.order_credits.specs.declared.share.OwnedVersion.{OwnedVersion}
 use Rattle.order_credits.specs.declared.share.RecordingShare.{RecordingShare}
 
@@ -39,8 +39,8 @@ abbrev pub sought : Recordings → List Played → List (List ℕ)
 sought wanted played = map (λ p. p.0) (filter (λ p. is_wanted wanted (Some p.0)) played)
 
 -- it is what the cut has of a sender
-abbrev pub IsCutOf : List TransmissionKey → List ℕ → Option TransmissionKey → Type 0
-IsCutOf cut sender key = key ≡ find (λ k. bytes_eq k.sender sender) cut
+abbrev pub IsCutOfSender : List TransmissionKey → List ℕ → Option TransmissionKey → Type 0
+IsCutOfSender cut sender key = key ≡ find (λ k. bytes_eq k.sender sender) cut
 
 -- something is said of each book whose works the tables have, and in which the cut of an order is reached
 abbrev pub OfReached : Order → (Office → Book → Type 0) → Trees → Type 0
@@ -62,12 +62,12 @@ StandAt office book order candidates isrc = claimants_among candidates isrc ≡ 
 -- where the candidates stand for the works that name the recording, it is the share that this has of a part, of so many points in all
 abbrev pub IsPaidShare : Order → ℕ → Played × ℕ → List Candidate → Trees → RecordingShare → Type 0
 IsPaidShare order total paid candidates db share =
-    OfReached order (λ office book. StandAt office book order candidates paid.0.0 → share ≡ share_of office book order total paid) db
+    OfReached order (λ office book. StandAt office book order candidates paid.0.0 → share ≡ recording_share office book order total paid) db
 
 -- where they do so if it is wanted, its share is added behind those that there were, if it is wanted
 abbrev pub AddsPaidShare : Order → ℕ → Recordings → List Candidate → Played × ℕ → List RecordingShare → List RecordingShare → Trees → Type 0
 AddsPaidShare order total wanted candidates paid old new db =
-    OfReached order (λ office book. (is_wanted wanted (Some paid.0.0) ≡ true → StandAt office book order candidates paid.0.0) → new ≡ old ++ shares_wanted wanted (share_of office book order total paid ∷ [])) db
+    OfReached order (λ office book. (is_wanted wanted (Some paid.0.0) ≡ true → StandAt office book order candidates paid.0.0) → new ≡ old ++ shares_wanted wanted (recording_share office book order total paid ∷ [])) db
 
 -- the candidates stand so for each of these recordings that is wanted
 abbrev pub StandForWanted : Office → Book → Order → Recordings → List Candidate → List (Played × ℕ) → Type 0
@@ -76,7 +76,7 @@ StandForWanted office book order wanted candidates paid = AllByRecursion (λ p. 
 -- where they do, they are the shares of those that are wanted
 abbrev pub ArePaidShares : Order → ℕ → Recordings → List Candidate → List (Played × ℕ) → Trees → List RecordingShare → Type 0
 ArePaidShares order total wanted candidates paid db shares =
-    OfReached order (λ office book. StandForWanted office book order wanted candidates paid → shares ≡ shares_wanted wanted (map (share_of office book order total) paid)) db
+    OfReached order (λ office book. StandForWanted office book order wanted candidates paid → shares ≡ shares_wanted wanted (map (recording_share office book order total) paid)) db
 
 -- they are the candidates for these recordings of the works of an order's cut, by each book whose works the tables have
 abbrev pub AreOfCut : Office → Order → (List ℕ → Bool) → Trees → List Candidate → Type 0
@@ -86,9 +86,9 @@ AreOfCut office order of_these db candidates =
 -- they are the wanted shares of recordings with these points
 abbrev pub ArePlayedShares : Office → Order → Recordings → List Played → Trees → List RecordingShare → Type 0
 ArePlayedShares office order wanted played db shares =
-    (book : Book) → HoldsWorks office book db → ReachesCut book order → shares ≡ shares_wanted wanted (shares_by office book order played)
+    (book : Book) → HoldsWorks office book db → ReachesCut book order → shares ≡ shares_wanted wanted (recording_shares_by office book order played)
 
 -- they are the wanted shares of an order, by each book whose works the tables have and out of which it can be paid
 abbrev pub AreSharesOf : Office → Order → Recordings → Trees → List RecordingShare → Type 0
 AreSharesOf office order wanted db shares =
-    (book : Book) → HoldsWorks office book db → ReachesCut book order → shares ≡ shares_wanted wanted (shares_of office book order)
+    (book : Book) → HoldsWorks office book db → ReachesCut book order → shares ≡ shares_wanted wanted (recording_shares office book order)

@@ -9,7 +9,7 @@ use Rattle.society_core.specs.Orders.{Order}
 use Rattle.society_core.specs.declared.refusal.Refusal.{Refusal}
 use Rattle.society_core.specs.declared.refusal.Refusal.TheVariants.{ReturnUnknown}
 use Rattle.society_core.specs.declared.return_key.ReturnKey.{ReturnKey}
-use Rattle.order_credits.specs.Shares.{shares_of, shares_wanted}
+use Rattle.order_credits.specs.Shares.{recording_shares, shares_wanted}
 use Rattle.order_credits.specs.declared.share.RecordingShare.{RecordingShare}
 
 -- the refusal of a return that is not there
@@ -27,7 +27,7 @@ credits_unless None shares = Ok shares
 
 -- what an order would credit of the recordings that are wanted, or why it can't be answered (profile)
 abbrev pub credit_answer : Office → Book → Order → Option (BTreeSet (List ℕ)) → Result (List RecordingShare) Refusal
-credit_answer office book order wanted = credits_unless (credit_refusal book order) (shares_wanted wanted (shares_of office book order))
+credit_answer office book order wanted = credits_unless (credit_refusal book order) (shares_wanted wanted (recording_shares office book order))
 
 -- the shares of an answer, as a list
 abbrev pub listed : Result (Vec RecordingShare Global) Refusal → Result (List RecordingShare) Refusal

@@ -70,8 +70,8 @@ abbrev pub points_played : List Played → List ℕ
 points_played played = map (λ p. p.1) played
 
 -- the share of a recording that has a part of the amount, of so many points in all
-abbrev pub share_of : Office → Book → Order → ℕ → Played × ℕ → RecordingShare
-share_of office book order total paid = record {
+abbrev pub recording_share : Office → Book → Order → ℕ → Played × ℕ → RecordingShare
+recording_share office book order total paid = record {
   isrc = Some paid.0.0;
   points = paid.0.1;
   units = paid.1;
@@ -85,14 +85,14 @@ abbrev pub share_of_nothing : Order → RecordingShare
 share_of_nothing order = record { isrc = None; points = 0; units = order.amount; remainder = 0; owner = None; parts = order.amount ∷ [] }
 
 -- the shares of these recordings: each has its part of the amount, which is split over them by their points
-abbrev pub shares_by : Office → Book → Order → List Played → List RecordingShare
-shares_by office book order [] = share_of_nothing order ∷ []
-shares_by office book order (first ∷ more) =
-    map (share_of office book order (sum (points_played (first ∷ more)))) (zip (first ∷ more) (split_of order.amount (points_played (first ∷ more))))
+abbrev pub recording_shares_by : Office → Book → Order → List Played → List RecordingShare
+recording_shares_by office book order [] = share_of_nothing order ∷ []
+recording_shares_by office book order (first ∷ more) =
+    map (recording_share office book order (sum (points_played (first ∷ more)))) (zip (first ∷ more) (split_of order.amount (points_played (first ∷ more))))
 
 -- what an order credits, recording by recording, ascending by ISRC (profile)
-unfoldable pub shares_of : Office → Book → Order → List RecordingShare
-shares_of office book order = shares_by office book order (points_by_recording (rows_named book order))
+unfoldable pub recording_shares : Office → Book → Order → List RecordingShare
+recording_shares office book order = recording_shares_by office book order (points_by_recording (rows_named book order))
 
 -- the credits of units for a recording, by the version that owns it
 abbrev pub credits_owned : Option (List ℕ) → Option OwnedVersion → ℕ → List Credit

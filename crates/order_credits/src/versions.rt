@@ -2,7 +2,7 @@
 ghost use Rattle.std.specs.Prelude.{◌≡◌, option_map};
 ghost use Rattle.society_book.specs.Steps.{Looks};
 ghost use Rattle.society_rows.specs.Between.{Within};
-ghost use Rattle.order_credits.specs.Looked.{HasRevisionAt, IsCutOf, OwnsBy};
+ghost use Rattle.order_credits.specs.Looked.{HasRevisionAt, IsCutOfSender, OwnsBy};
 
 use crate::share::OwnedVersion;
 use society_closings::version_at;
@@ -13,7 +13,7 @@ use work_ids::SenderKey;
 
 // What the cut has of a sender.
 fn key_of<'a>(cut: &'a [TransmissionKey], sender: &SenderKey) -> Option<&'a TransmissionKey>
-    ensures { IsCutOf cut.entry.now sender.now (option_map (λ key. key.now) result) }
+    ensures { IsCutOfSender cut.entry.now sender.now (option_map (λ key. key.now) result) }
 {
     cut.iter().find(|key| key.sender == *sender)
 }

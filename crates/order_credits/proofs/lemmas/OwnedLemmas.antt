@@ -14,7 +14,7 @@ use Rattle.society_core.specs.Owners.{CutWork, names_recording, owner, sole, wor
 use Rattle.society_core.specs.Pools.{holders_of}
 use Rattle.society_core.specs.declared.claim_list.Candidate.{Candidate}
 use Rattle.society_core.specs.declared.transmission_key.TransmissionKey.{TransmissionKey}
-use Rattle.order_credits.specs.Looked.{IsCutOf, StandAt}
+use Rattle.order_credits.specs.Looked.{IsCutOfSender, StandAt}
 use Rattle.order_credits.specs.Shares.{revision_at_cut, revision_by, revision_of, version_owned, work_named}
 use Rattle.order_credits.specs.declared.share.OwnedVersion.{OwnedVersion}
 use Rattle.works_core.specs.declared.version.WorkVersion.{WorkVersion}
@@ -70,16 +70,16 @@ some_owned office book order (Some w) c owned same sender work holders revision 
     ap (λ (o : OwnedVersion). Some o) all
 
 -- the revision where the cut has nothing of the sender
-pub revision_none : (office : Office) (book : Book) (order : Order) (sender work : List ℕ) (cut : List TransmissionKey) → cut ≡ order.cut → IsCutOf cut sender None → 0 ≡ revision_at_cut office book order sender work
+pub revision_none : (office : Office) (book : Book) (order : Order) (sender work : List ℕ) (cut : List TransmissionKey) → cut ≡ order.cut → IsCutOfSender cut sender None → 0 ≡ revision_at_cut office book order sender work
 revision_none office book order sender work cut is found = ap (revision_by office book work) (found ∙ ap (find (λ (k : TransmissionKey). bytes_eq k.sender sender)) is)
 
 -- the revision of the version at what the cut has of the sender
-pub revision_some : (office : Office) (book : Book) (order : Order) (sender work : List ℕ) (cut : List TransmissionKey) (key : TransmissionKey) (version : Option WorkVersion) → cut ≡ order.cut → IsCutOf cut sender (Some key)
+pub revision_some : (office : Office) (book : Book) (order : Order) (sender work : List ℕ) (cut : List TransmissionKey) (key : TransmissionKey) (version : Option WorkVersion) → cut ≡ order.cut → IsCutOfSender cut sender (Some key)
     → version ≡ version_in office book key.sender work key.number → revision_of version ≡ revision_at_cut office book order sender work
 revision_some office book order sender work cut key version is found its =
     ap revision_of its ∙ ap (revision_by office book work) (found ∙ ap (find (λ (k : TransmissionKey). bytes_eq k.sender sender)) is)
 
 -- what a cut has that is reached is in its sender's line
-pub key_reached : (book : Book) (order : Order) (sender : List ℕ) (cut : List TransmissionKey) (key : TransmissionKey) → cut ≡ order.cut → IsCutOf cut sender (Some key) → ReachesCut book order → is_applied book key ≡ true
+pub key_reached : (book : Book) (order : Order) (sender : List ℕ) (cut : List TransmissionKey) (key : TransmissionKey) → cut ≡ order.cut → IsCutOfSender cut sender (Some key) → ReachesCut book order → is_applied book key ≡ true
 key_reached book order sender cut key is found reached =
     found_is (λ (k : TransmissionKey). bytes_eq k.sender sender) (is_applied book) order.cut key (sym (found ∙ ap (find (λ (k : TransmissionKey). bytes_eq k.sender sender)) is)) reached

@@ -16,16 +16,16 @@ use Rattle.society_core.specs.Owners.{works_of_cut}
 use Rattle.society_core.specs.Pools.{holders_of}
 use Rattle.society_core.specs.declared.claim_list.Candidate.{Candidate}
 use Rattle.order_credits.specs.Looked.{Recordings, StandAt, StandForWanted, sought}
-use Rattle.order_credits.specs.Shares.{Played, is_wanted, owner_at_cut, parts_owned, points_played, share_of, shares_by, shares_wanted}
+use Rattle.order_credits.specs.Shares.{Played, is_wanted, owner_at_cut, parts_owned, points_played, recording_share, recording_shares_by, shares_wanted}
 use Rattle.order_credits.specs.declared.share.OwnedVersion.{OwnedVersion}
 use Rattle.order_credits.specs.declared.share.RecordingShare.{RecordingShare}
 
 -- a share, by what it is made of
 pub share_is : (office : Office) (book : Book) (order : Order) (total : ℕ) (paid : Played × ℕ) (share : RecordingShare) → share.isrc ≡ Some paid.0.0 → share.points ≡ paid.0.1 → share.units ≡ paid.1
-    → share.remainder ≡ remainder order.amount total paid.0.1 → share.owner ≡ owner_at_cut office book order paid.0.0 → share.parts ≡ parts_owned paid.1 share.owner → share ≡ share_of office book order total paid
+    → share.remainder ≡ remainder order.amount total paid.0.1 → share.owner ≡ owner_at_cut office book order paid.0.0 → share.parts ≡ parts_owned paid.1 share.owner → share ≡ recording_share office book order total paid
 share_is office book order total paid share isrc points units rest owner parts =
     let its : share.parts ≡ parts_owned paid.1 (owner_at_cut office book order paid.0.0) = parts ∙ ap (parts_owned paid.1) owner in
-    let made : RecordingShare = share_of office book order total paid in
+    let made : RecordingShare = recording_share office book order total paid in
     let make : Option (List ℕ) → ℕ → ℕ → ℕ → Option OwnedVersion → List ℕ → RecordingShare = λ i p u r o ps. record { isrc = i; points = p; units = u; remainder = r; owner = o; parts = ps } in
     ap (λ (i : Option (List ℕ)). make i share.points share.units share.remainder share.owner share.parts) isrc
     ∙ ap (λ (p : ℕ). make made.isrc p share.units share.remainder share.owner share.parts) points
@@ -39,9 +39,9 @@ pub wanted_more : (wanted : Recordings) (shares : List RecordingShare) (share : 
 wanted_more wanted shares share = filter-append (λ (s : RecordingShare). is_wanted wanted s.isrc) shares (share ∷ [])
 
 pub shares_more : (office : Office) (book : Book) (order : Order) (total : ℕ) (wanted : Recordings) (paid : List (Played × ℕ)) (p : Played × ℕ)
-    → shares_wanted wanted (map (share_of office book order total) (paid ++ p ∷ [])) ≡ shares_wanted wanted (map (share_of office book order total) paid) ++ shares_wanted wanted (share_of office book order total p ∷ [])
+    → shares_wanted wanted (map (recording_share office book order total) (paid ++ p ∷ [])) ≡ shares_wanted wanted (map (recording_share office book order total) paid) ++ shares_wanted wanted (recording_share office book order total p ∷ [])
 shares_more office book order total wanted paid p =
-    ap (shares_wanted wanted) (map-append (share_of office book order total) paid (p ∷ [])) ∙ wanted_more wanted (map (share_of office book order total) paid) (share_of office book order total p)
+    ap (shares_wanted wanted) (map-append (recording_share office book order total) paid (p ∷ [])) ∙ wanted_more wanted (map (recording_share office book order total) paid) (recording_share office book order total p)
 
 -- what is wanted is kept, and nothing else
 pub one_wanted : (wanted : Recordings) (share : RecordingShare) → is_wanted wanted share.isrc ≡ true → share ∷ [] ≡ shares_wanted wanted (share ∷ [])
@@ -78,11 +78,11 @@ stand_for_wanted office book order wanted candidates all (p ∷ ps) (part ∷ pa
 )
 
 -- the shares where nothing was played, and where something was
-pub shares_of_none : (office : Office) (book : Book) (order : Order) (ps : List Played) → (length ps == 0) ≡ true → shares_by office book order [] ≡ shares_by office book order ps
+pub shares_of_none : (office : Office) (book : Book) (order : Order) (ps : List Played) → (length ps == 0) ≡ true → recording_shares_by office book order [] ≡ recording_shares_by office book order ps
 shares_of_none office book order [] is = refl
 shares_of_none office book order (p ∷ ps) is = absurd (let no : suc (length ps) ≡ 0 = same_number (suc (length ps)) 0 is in cc)
 
 pub shares_of_some : (office : Office) (book : Book) (order : Order) (ps : List Played) → (length ps == 0) ≡ false
-    → map (share_of office book order (sum (points_played ps))) (zip ps (split_of order.amount (points_played ps))) ≡ shares_by office book order ps
+    → map (recording_share office book order (sum (points_played ps))) (zip ps (split_of order.amount (points_played ps))) ≡ recording_shares_by office book order ps
 shares_of_some office book order [] is = absurd (false≢true (sym is))
 shares_of_some office book order (p ∷ ps) is = refl

@@ -7,7 +7,7 @@ use Rattle.society_core.specs.declared.refusal.Refusal.{Refusal}
 use Rattle.order_credits.proofs.lemmas.RefusalLemmas.{lines_of, unrefused_reaches}
 use Rattle.order_credits.specs.Looked.{AreSharesOf}
 use Rattle.order_credits.specs.Refused.{credit_refusal, credits_unless, listed}
-use Rattle.order_credits.specs.Shares.{shares_of, shares_wanted}
+use Rattle.order_credits.specs.Shares.{recording_shares, shares_wanted}
 use Rattle.order_credits.specs.declared.share.RecordingShare.{RecordingShare}
 use Rattle.order_credits.proofs.crediting.credit_order.Goals as goal
 
@@ -20,7 +20,7 @@ returns-in-Some g c = record {
         let order = c.args.order.now in
         let old = state g.S.Store c.args.tx.now.conn.now in
         looks_as old (state g.S.Store c.refusal_of.new.tx.conn.now) c.in_ok-refusal.field-0 (Ok (Err c.in-Some.refusal)) _ _ c.in_ok-refusal.ensures.looks.says
-        (λ is b holds. ap (λ r. credits_unless r (shares_wanted (option_map (λ set. set.now) c.args.wanted) (shares_of o b order))) (sym c.in-Some.is ∙ is o b (lines_of o b old.now.trees holds)));
+        (λ is b holds. ap (λ r. credits_unless r (shares_wanted (option_map (λ set. set.now) c.args.wanted) (recording_shares o b order))) (sym c.in-Some.is ∙ is o b (lines_of o b old.now.trees holds)));
   };
 }
 
@@ -42,6 +42,6 @@ returns-in_ok-shares_in-in-None g c = record {
         let none : credit_refusal b order ≡ None = sym (is o b (lines_of o b old.now.trees holds)) ∙ c.in-None.is in
         ap listed here.0
         ∙ ap (λ (l : List RecordingShare). Ok l) (here.1 b (works_of o b old.now.trees holds) (unrefused_reaches b order none))
-        ∙ ap (λ r. credits_unless r (shares_wanted wanted (shares_of o b order))) (sym none));
+        ∙ ap (λ r. credits_unless r (shares_wanted wanted (recording_shares o b order))) (sym none));
   };
 }

@@ -9,7 +9,7 @@ use Rattle.society_core.specs.Pools.{holders_of}
 use Rattle.society_core.specs.declared.claim_list.Candidate.{Candidate}
 use Rattle.order_credits.proofs.lemmas.ShareLemmas.{shares_of_some, stand_for_wanted}
 use Rattle.order_credits.specs.Looked.{StandForWanted, sought}
-use Rattle.order_credits.specs.Shares.{Played, points_played, share_of, shares_wanted}
+use Rattle.order_credits.specs.Shares.{Played, points_played, recording_share, shares_wanted}
 use Rattle.order_credits.proofs.sharing.shares_by.Goals as goal
 
 pub returns : goal.returns
@@ -32,7 +32,7 @@ returns g c = record {
         looks_then (state g.S.Store c.args.tx.now.conn.now) (state g.S.Store c.candidates_for.new.tx.conn.now) (state g.S.Store c.shares_paid.new.tx.conn.now) c.in_ok-candidates.candidates c.shares_paid.result _ _ _
         c.in_ok-candidates.ensures.looks.says c.shares_paid.ensures.looks.says
         (λ y are shares b holds reached.
-        let P : List Candidate → List (Played × ℕ) → ℕ → Type 0 = λ xs ps t. StandForWanted o b order wanted xs ps → y.items ≡ shares_wanted wanted (map (share_of o b order t) ps) in
+        let P : List Candidate → List (Played × ℕ) → ℕ → Type 0 = λ xs ps t. StandForWanted o b order wanted xs ps → y.items ≡ shares_wanted wanted (map (recording_share o b order t) ps) in
         let its : P c.deref-6.result.now c.deref-5.result.now total = shares o b holds reached in
         let moved : P cs (zip played parts) (sum (points_played played)) =
         subst (P cs (zip played parts)) total_is (subst (λ (ps : List (Played × ℕ)). P cs ps total) paid_is (subst (λ (xs : List Candidate). P xs c.deref-5.result.now total) c.deref-6.ensures.value its)) in

@@ -5,7 +5,7 @@ use Rattle.sqlite_trees.proofs.ListLemmas.{all-get_or}
 use Rattle.society_book.proofs.lemmas.together.StepLemmas.{looks_as, looks_then, nothing}
 use Rattle.order_credits.proofs.lemmas.ShareLemmas.{shares_more}
 use Rattle.order_credits.specs.Looked.{StandAt}
-use Rattle.order_credits.specs.Shares.{Played, is_wanted, share_of, shares_wanted}
+use Rattle.order_credits.specs.Shares.{Played, is_wanted, recording_share, shares_wanted}
 use Rattle.order_credits.specs.declared.share.RecordingShare.{RecordingShare}
 use Rattle.order_credits.proofs.sharing.shares_paid.Goals as goal
 
@@ -33,8 +33,8 @@ loop-recording-preserved g c =
           subst (λ (q : Played × ℕ). is_wanted wanted (Some q.0.0) ≡ true → StandAt o b order c.args.candidates.now q.0.0) (sym c.recording-item.is)
           (all-get_or (λ (q : Played × ℕ). is_wanted wanted (Some q.0.0) ≡ true → StandAt o b order c.args.candidates.now q.0.0) paid i p stand c.loop-recording-test.true) in
           second o b holds reached here
-          ∙ ap (λ (l : List RecordingShare). l ++ shares_wanted wanted (share_of o b order c.args.total p ∷ [])) (first o b holds reached stand)
-          ∙ sym (ap (λ (l : List (Played × ℕ)). shares_wanted wanted (map (share_of o b order c.args.total) l)) (take_more paid i p c.loop-recording-test.true ∙ ap (λ (q : Played × ℕ). take i paid ++ q ∷ []) (sym c.recording-item.is)) ∙ shares_more o b order c.args.total wanted (take i paid) p));
+          ∙ ap (λ (l : List RecordingShare). l ++ shares_wanted wanted (recording_share o b order c.args.total p ∷ [])) (first o b holds reached stand)
+          ∙ sym (ap (λ (l : List (Played × ℕ)). shares_wanted wanted (map (recording_share o b order c.args.total) l)) (take_more paid i p c.loop-recording-test.true ∙ ap (λ (q : Played × ℕ). take i paid ++ q ∷ []) (sym c.recording-item.is)) ∙ shares_more o b order c.args.total wanted (take i paid) p));
     }
 
 pub returns : goal.returns
@@ -44,6 +44,6 @@ returns g c = record {
     says =
         looks_as (state g.S.Store c.args.tx.now.conn.now) (state g.S.Store c.loop-recording.tx.conn.now) tt (Ok c.loop-recording.shares) _ _ c.loop-recording.invariant.looks
         (λ all o b holds reached stand. all o b holds reached stand
-        ∙ ap (λ (l : List (Played × ℕ)). shares_wanted (option_map (λ set. set.now) c.args.wanted) (map (share_of o b c.args.order.now c.args.total) l)) (take_all c.loop-recording.recording-index c.args.paid.now c.loop-recording-test.false));
+        ∙ ap (λ (l : List (Played × ℕ)). shares_wanted (option_map (λ set. set.now) c.args.wanted) (map (recording_share o b c.args.order.now c.args.total) l)) (take_all c.loop-recording.recording-index c.args.paid.now c.loop-recording-test.false));
   };
 }

@@ -3,7 +3,7 @@ use Rattle.sqlite.specs.Held.{state}
 use Rattle.society_book.proofs.lemmas.together.StepLemmas.{looks_as, nothing}
 use Rattle.society_core.specs.declared.transmission_key.TransmissionKey.{TransmissionKey}
 use Rattle.order_credits.proofs.lemmas.OwnedLemmas.{key_reached, revision_none, revision_some}
-use Rattle.order_credits.specs.Looked.{IsCutOf}
+use Rattle.order_credits.specs.Looked.{IsCutOfSender}
 use Rattle.order_credits.specs.Shares.{revision_of}
 use Rattle.order_credits.proofs.versions.revision_of.Goals as goal
 
