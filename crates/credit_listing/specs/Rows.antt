@@ -17,18 +17,18 @@ listing_columns =
     ∷ codes "weight" ∷ codes "part" ∷ []
 
 -- the fields that each row of a share begins with: which order it is of, the recording or a hyphen, its points, its units, and the remainder
-abbrev pub share_fields : ℕ → RecordingShare → List (List ℕ) → List (List ℕ)
-share_fields number share more = decimal number ∷ isrc_field share.isrc ∷ decimal share.points ∷ decimal share.units ∷ decimal share.remainder ∷ more
+abbrev pub share_columns : ℕ → RecordingShare → List (List ℕ) → List (List ℕ)
+share_columns number share more = decimal number ∷ isrc_field share.isrc ∷ decimal share.points ∷ decimal share.units ∷ decimal share.remainder ∷ more
 
 -- the row of a holder of the version that owns it, with the weight and the part
 abbrev pub holder_row : ℕ → RecordingShare → OwnedVersion → Holder × ℕ → List (List ℕ)
 holder_row number share owner paid =
-    share_fields number share
+    share_columns number share
     (owner.sender ∷ without_trailing_blanks owner.work ∷ decimal owner.revision ∷ account_text paid.0.account ∷ decimal paid.0.weight ∷ decimal paid.1 ∷ [])
 
 -- the row of a share that nobody owns: all of it is unclaimed
 abbrev pub unowned_row : ℕ → RecordingShare → List (List ℕ)
-unowned_row number share = share_fields number share ([] ∷ [] ∷ [] ∷ account_text Unclaimed ∷ [] ∷ decimal share.units ∷ [])
+unowned_row number share = share_columns number share ([] ∷ [] ∷ [] ∷ account_text Unclaimed ∷ [] ∷ decimal share.units ∷ [])
 
 -- the rows of a share by the version that owns it: one for each of its holders, in order, or one where there is none
 abbrev pub share_rows_by : ℕ → RecordingShare → Option OwnedVersion → List (List (List ℕ))

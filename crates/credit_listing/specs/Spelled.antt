@@ -24,15 +24,15 @@ abbrev pub recording_named : Data → Option (List ℕ)
 recording_named value = option_and_then (λ text. result_ok (isrc_of_text text)) (as_str value)
 
 -- the first and all others, where they are there
-abbrev pub before : Option (List ℕ) → Option (List (List ℕ)) → Option (List (List ℕ))
-before (Some first) (Some others) = Some (first ∷ others)
-before (Some first) None = None
-before None others = None
+abbrev pub isrc_before : Option (List ℕ) → Option (List (List ℕ)) → Option (List (List ℕ))
+isrc_before (Some first) (Some others) = Some (first ∷ others)
+isrc_before (Some first) None = None
+isrc_before None others = None
 
 -- recordings, where all elements name one
 abbrev pub recordings_among : Items → Option (List (List ℕ))
 recordings_among no_items = Some []
-recordings_among (item value items) = before (recording_named value) (recordings_among items)
+recordings_among (item value items) = isrc_before (recording_named value) (recordings_among items)
 
 -- an array of them
 abbrev pub recordings_named : Data → Option (List (List ℕ))
@@ -49,18 +49,18 @@ spelled_for value (Some recordings) = spelled_with (Some recordings) (order_with
 spelled_for value None = Err Shape
 
 -- the order of a value, by its member `isrcs`
-abbrev pub spelled_by : Data → Option Data → Result Spelled OrderFault
-spelled_by value None = spelled_with None (order_with 0 value)
-spelled_by value (Some named) = spelled_for value (recordings_named named)
+abbrev pub order_spelled_by : Data → Option Data → Result Spelled OrderFault
+order_spelled_by value None = spelled_with None (order_with 0 value)
+order_spelled_by value (Some named) = spelled_for value (recordings_named named)
 
 -- what JSON spells: no JSON is another shape
-abbrev pub spelled_in : Option Data → Result Spelled OrderFault
-spelled_in None = Err Shape
-spelled_in (Some value) = spelled_by value (get (codes "isrcs") value)
+abbrev pub order_spelled_in : Option Data → Result Spelled OrderFault
+order_spelled_in None = Err Shape
+order_spelled_in (Some value) = order_spelled_by value (get (codes "isrcs") value)
 
 -- what a line spells
 unfoldable pub order_on_line : List ℕ → Result Spelled OrderFault
-order_on_line line = spelled_in (json_of line)
+order_on_line line = order_spelled_in (json_of line)
 
 -- a set has the names of a list, and no other
 abbrev pub IsSetOf : List (List ℕ) → BTreeSet (List ℕ) → Type 0

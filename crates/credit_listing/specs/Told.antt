@@ -11,12 +11,12 @@ abbrev pub front_text : ℕ → List ℕ
 front_text rank = if nat_lt rank 1000000 then decimal rank else dated_text ((rank - 1000000) / 10000) ((rank - 1000000) % 10000)
 
 -- why an order is not answered (profile)
-abbrev pub refusal_text : Refusal → List ℕ
-refusal_text (refusals.Order fault) = codes "fault " ++ decimal (order_fault_number fault)
-refusal_text (refusals.Cut sender front) = codes "cut " ++ sender ++ codes " front " ++ front_text front
-refusal_text (refusals.ReturnUnknown key) = codes "no return " ++ without_trailing_blanks key.reporter ++ codes " " ++ decimal key.number
-refusal_text _ = []
+abbrev pub refusal_words : Refusal → List ℕ
+refusal_words (refusals.Order fault) = codes "fault " ++ decimal (order_fault_number fault)
+refusal_words (refusals.Cut sender front) = codes "cut " ++ sender ++ codes " front " ++ front_text front
+refusal_words (refusals.ReturnUnknown key) = codes "no return " ++ without_trailing_blanks key.reporter ++ codes " " ++ decimal key.number
+refusal_words _ = []
 
 -- the line that says so of the order of this number (profile)
 abbrev pub refusal_line : ℕ → Refusal → List ℕ
-refusal_line number refusal = codes "society: order " ++ decimal number ++ codes ": " ++ refusal_text refusal ++ codes "\n"
+refusal_line number refusal = codes "society: order " ++ decimal number ++ codes ": " ++ refusal_words refusal ++ codes "\n"

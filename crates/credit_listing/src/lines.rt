@@ -1,9 +1,9 @@
 //! Lines of a reader.
-ghost use Rattle.std.specs.Prelude.{◌≡◌, ◌≤◌, [], false, length, take, IfErr, IfOk, OnOk};
+ghost use Rattle.std.specs.Prelude.{◌≡◌, ◌≤◌, false, length, take, true, IfErr, IfOk, OnOk};
 ghost use Rattle.std.specs.Io.KnownBytes.{IsAtEnd};
 ghost use Rattle.http_desk.specs.Counted.{failures_of, inner_of};
 ghost use Rattle.http_desk.specs.Input.{unread};
-ghost use Rattle.credit_listing.specs.Lines.{ComesBehind, IsLine, IsReadFault};
+ghost use Rattle.credit_listing.specs.Lines.{ComesBehind, IsNext, IsReadFault};
 
 use http_desk::{Counted, FaultKind, Input};
 use memchr::memchr;
@@ -15,27 +15,43 @@ const LINE_FEED: u8 = b'\n';
 /// Bytes that no memory has: a line does not grow past so many.
 const MAX_LINE: usize = 1 << 39;
 
-/// How many bytes at the front of the input are its next line, with its end where it has one; 0 where there is none. `Read` where the reader
-/// failed, `Memory` where memory for the line was refused.
+/// A line at the front of the input.
+#[derive(Clone, Copy)]
+pub(crate) struct Line {
+    /// Its bytes, with its end where it has one.
+    pub(crate) length: usize,
+    /// Whether it has no end, since it is all that is left of what the reader gave.
+    pub(crate) is_last: bool,
+}
+
+/// The next line at the front of the input; the last one may have no byte, where nothing is left. `Read` where the reader failed, `Memory`
+/// where memory for the line was refused.
 pub(crate) fn next_line<R: Read>(
     input: &mut Input,
     reader: &mut Counted<R>,
-) -> Result<usize, FaultKind>
-    ensures within { IfOk result (λ count. count ≤ length (unread input.new)) }
-    ensures line { IfOk result (λ count. IsLine (take count (unread input.new))) }
+) -> Result<Line, FaultKind>
+    ensures within { IfOk result (λ line. line.length ≤ length (unread input.new)) }
+    ensures line { IfOk result (λ line. IsNext line.is_last (take line.length (unread input.new))) }
     ensures came { ComesBehind R.remaining reader.old reader.new input.old input.new }
     ensures kept { OnOk result (failures_of reader.new ≡ failures_of reader.old) }
     ensures failed { IfErr result (λ kind. IsReadFault kind (failures_of reader.old) (failures_of reader.new)) }
-    ensures ended { IfOk result (λ count. count ≡ 0 → (unread input.new ≡ []) × IsAtEnd (R.remaining (inner_of reader.new))) }
+    ensures ended { IfOk result (λ line. line.is_last ≡ true
+        → (line.length ≡ length (unread input.new)) × IsAtEnd (R.remaining (inner_of reader.new))) }
 {
     let mut seen = 0;
     for _ in 0..u64::MAX {
         if let Some(place) = memchr(LINE_FEED, &input.unread()[seen..]) {
-            return Ok(seen + place + 1);
+            return Ok(Line {
+                length: seen + place + 1,
+                is_last: false,
+            });
         }
         seen = input.unread().len();
         if !read_on(input, reader, seen)? {
-            return Ok(seen);
+            return Ok(Line {
+                length: seen,
+                is_last: true,
+            });
         }
     }
     Err(FaultKind::Turns)

@@ -92,17 +92,22 @@ pub fn list_credits<S: Alter, R: Read, W: Write, E: Write>(
     };
     let mut all = true;
     for done in 0..u64::MAX {
-        let length = match next_line(&mut input, reader) {
-            Ok(0) => return Ok(Ok(all)),
-            Ok(length) => length,
+        let line = match next_line(&mut input, reader) {
+            Ok(line) => line,
             Err(kind) => return Ok(Err(broken(kind, done))),
         };
-        let answer = answer_line(alloc, tx, office, &input.unread()[..length])?;
+        if line.length == 0 {
+            return Ok(Ok(all));
+        }
+        let answer = answer_line(alloc, tx, office, &input.unread()[..line.length])?;
         match write_answer(alloc, done + 1, answer, out, err) {
             Ok(rows) => all &= rows,
             Err(kind) => return Ok(Err(broken(kind, done))),
         }
-        input.take(length);
+        input.take(line.length);
+        if line.is_last {
+            return Ok(Ok(all));
+        }
     }
     Ok(Err(broken(FaultKind::Turns, u64::MAX)))
 }

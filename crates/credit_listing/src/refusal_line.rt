@@ -3,7 +3,7 @@ ghost use Rattle.std.specs.Prelude.{◌++◌, codes, decimal};
 ghost use Rattle.desk_connections.specs.Connections.{Prints};
 ghost use Rattle.society_core.specs.Orders.{order_fault_number};
 ghost use Rattle.work_ids.specs.Blanks.{without_trailing_blanks};
-ghost use Rattle.credit_listing.specs.Told.{front_text, refusal_line, refusal_text};
+ghost use Rattle.credit_listing.specs.Told.{front_text, refusal_line, refusal_words};
 
 use desk_connections::{print, print_number};
 use http_desk::Counted;
@@ -53,7 +53,7 @@ fn print_fault<E: Write>(err: &mut Counted<E>, fault: OrderFault)
 
 // Prints why an order is not answered.
 fn print_refusal<E: Write>(err: &mut Counted<E>, refusal: &Refusal)
-    ensures { Prints E.contents err.old err.new (refusal_text refusal.now) }
+    ensures { Prints E.contents err.old err.new (refusal_words refusal.now) }
 {
     match refusal {
         Refusal::Order(fault) => print_fault(err, *fault),

@@ -1,10 +1,12 @@
 -- Lines are found where their line feeds are, and are what came.
-use Rattle.std.proofs.Common.{◌≡◌, ◌∙◌, ◌+◌, ◌-◌, ◌<◌, ◌≤◌, ℕ, List, [], ◌∷◌, ◌++◌, ⊎_elim, ap, append_assoc, append-nil, arith, drop, Err, length, Ok, refl, Result, subst, sym, take, true}
+use Rattle.std.proofs.Common.{◌≡◌, ◌∙◌, ◌+◌, ◌-◌, ◌<◌, ◌≤◌, ℕ, Bool, List, [], ◌∷◌, ◌++◌, ⊎_elim, ap, append_assoc, append-nil, arith, drop, Err, false, inl, inr, length, Ok, refl, Result, subst, sym, take, true}
 use Rattle.std.proofs.Math.ListN.{get_or-append}
-use Rattle.std.proofs.lemmas.Bool.{cases_lt}
+use Rattle.std.proofs.lemmas.Bool.{cases_lt, eqb-true}
 use Rattle.std.proofs.lemmas.Grind.{flat_map-append}
-use Rattle.std.proofs.lemmas.List.{get_or-drop, get_or-take, length-drop, length-take-le, take-append-drop, take_all}
+use Rattle.std.proofs.lemmas.List.{get_or-drop, get_or-take, length-drop, length-take, length-take-le, nil_from_length, take-append-drop, take_all}
+use Rattle.std.proofs.Math.Seq.{drop-length}
 use Rattle.std.specs.Io.KnownBytes.{Consumes, IsAtEnd}
+use Rattle.std.specs.List.{AllByRecursion}
 use Rattle.std.specs.Prelude.{IfErr, slice_index}
 use Rattle.std.specs.Result.{IsErrAnd}
 use Rattle.http_desk.proofs.lemmas.Known.{Consumes-join, Consumes-none}
@@ -15,7 +17,7 @@ use Rattle.http_desk.specs.declared.fault.FaultKind.{FaultKind}
 use Rattle.http_desk.specs.declared.input.Input.{Input}
 use Rattle.memchr.specs.Find.{Nowhere, Passes, is_byte}
 use Rattle.sqlite_trees.proofs.ListLemmas.{all-append}
-use Rattle.credit_listing.specs.Lines.{AreRead, AreTaken, ComesBehind, IsLine, IsReadFault, NoFeed}
+use Rattle.credit_listing.specs.Lines.{AreLines, AreRead, AreTaken, ComesBehind, IsNext, IsReadFault, IsWholeLine, NoFeed}
 
 -- ---- where the line feeds are
 
@@ -36,10 +38,26 @@ no_feed_on bytes seen more before nowhere place below is = ⊎_elim (λ (low : p
         nowhere (place - seen) (omega arith) (omega (arith, low, below)) (feed (slice_index (drop seen bytes) (place - seen)) (get_or-drop seen bytes (place - seen) 0 ∙ ap (λ (n : ℕ). slice_index bytes n) here ∙ is))
 
 -- the line that ends with the first line feed that was found
-pub found_line : (bytes : List ℕ) (seen place : ℕ) → NoFeed bytes seen → seen + place < length bytes → Nowhere (Passes (is_byte 10) (drop seen bytes)) 0 place → IsLine (take (seen + place + 1) bytes)
-found_line bytes seen place before within nowhere at below is =
-    let long : length (take (seen + place + 1) bytes) ≡ seen + place + 1 = length-take-le (seen + place + 1) bytes (omega (arith, within)) in
-    no_feed_on bytes seen place before nowhere at (omega (arith, long, below)) (sym (get_or-take (seen + place + 1) bytes at 0 (omega (arith, long, below))) ∙ is)
+pub found_line : (bytes : List ℕ) (seen place : ℕ) → NoFeed bytes seen → seen + place < length bytes → Nowhere (Passes (is_byte 10) (drop seen bytes)) 0 place → Passes (is_byte 10) (drop seen bytes) place
+    → IsWholeLine (take (seen + place + 1) bytes)
+found_line bytes seen place before within nowhere is_feed = (omega (arith, long), at_end, none)
+  where
+    long : length (take (seen + place + 1) bytes) ≡ seen + place + 1
+    long = length-take-le (seen + place + 1) bytes (omega (arith, within))
+
+    last : length (take (seen + place + 1) bytes) - 1 ≡ seen + place
+    last = omega (arith, long)
+
+    at_end : slice_index (take (seen + place + 1) bytes) (length (take (seen + place + 1) bytes) - 1) ≡ 10
+    at_end =
+        ap (λ (n : ℕ). slice_index (take (seen + place + 1) bytes) n) last
+        ∙ get_or-take (seen + place + 1) bytes (seen + place) 0 (omega arith)
+        ∙ sym (get_or-drop seen bytes place 0)
+        ∙ eqb-true (slice_index (drop seen bytes) place) 10 is_feed
+
+    none : NoFeed (take (seen + place + 1) bytes) (length (take (seen + place + 1) bytes) - 1)
+    none at below is =
+        no_feed_on bytes seen place before nowhere at (omega (arith, long, below)) (sym (get_or-take (seen + place + 1) bytes at 0 (omega (arith, long, below))) ∙ is)
 
 -- all that was searched has none
 pub searched : (bytes : List ℕ) (seen : ℕ) → seen ≤ length bytes → NoFeed bytes seen → Nowhere (Passes (is_byte 10) (drop seen bytes)) 0 (length (drop seen bytes)) → NoFeed bytes (length bytes)
@@ -47,7 +65,7 @@ searched bytes seen within before nowhere =
     subst (NoFeed bytes) (let long = length-drop seen bytes in omega (arith, within, long)) (no_feed_on bytes seen (length (drop seen bytes)) before nowhere)
 
 -- and so it is the last line
-pub last_line : (bytes : List ℕ) (count : ℕ) → count ≡ length bytes → NoFeed bytes count → IsLine (take count bytes)
+pub last_line : (bytes : List ℕ) (count : ℕ) → count ≡ length bytes → NoFeed bytes count → NoFeed (take count bytes) (length (take count bytes))
 last_line bytes count is none at below found =
     let long : length (take count bytes) ≡ count = length-take-le count bytes (omega (arith, is)) in
     none at (omega (arith, long, below)) (sym (get_or-take count bytes at 0 (omega (arith, long, below))) ∙ found)
@@ -55,6 +73,25 @@ last_line bytes count is none at below found =
 -- what comes behind changes nothing of it
 pub still_none : (bytes more : List ℕ) (count : ℕ) → count ≤ length bytes → NoFeed bytes count → NoFeed (bytes ++ more) count
 still_none bytes more count within none at below found = none at below (sym (get_or-append bytes more 0 at (omega (arith, within, below))) ∙ found)
+
+-- a line of no byte is the last
+pub is_the_last : (last : Bool) (bytes : List ℕ) (count : ℕ) → count ≡ 0 → IsNext last (take count bytes) → last ≡ true
+is_the_last true bytes count none line = refl
+is_the_last false bytes count none line =
+    let some : 0 < length (take count bytes) = line.0 in
+    absurd (let long = length-take count bytes in omega (arith, none, some, long))
+
+-- lines that have their ends are lines
+pub whole_lines : (lines : List (List ℕ)) → AllByRecursion IsWholeLine lines → AreLines lines
+whole_lines [] each = tt
+whole_lines (line ∷ []) each = inl each.0
+whole_lines (line ∷ next ∷ lines) each = (each.0, whole_lines (next ∷ lines) each.1)
+
+-- and also with one behind them that has no end
+pub then_last : (lines : List (List ℕ)) (last : List ℕ) → AllByRecursion IsWholeLine lines → NoFeed last (length last) → AreLines (lines ++ last ∷ [])
+then_last [] last each none = inr none
+then_last (line ∷ []) last each none = (each.0, inr none)
+then_last (line ∷ next ∷ lines) last each none = (each.0, then_last (next ∷ lines) last each.1 none)
 
 -- ---- what did not
 
@@ -78,13 +115,12 @@ module _ {R : Type 0} (remaining : Known R) where
   pub comes_none : (reader : Counted R) (input : Input) → ComesBehind remaining reader reader input input
   comes_none reader input = ([], sym (append-nil (unread input)), Consumes-none (bytes_known remaining reader))
 
-  -- a line was read and taken
-  pub taken_line : (reader mid new_reader : Counted R) (input between new_input : Input) (lines : List (List ℕ)) (count : ℕ) → AreTaken remaining reader mid input lines → ComesBehind remaining mid new_reader input between
-      → IsLine (take count (unread between)) → unread new_input ≡ drop count (unread between) → AreTaken remaining reader new_reader new_input (lines ++ take count (unread between) ∷ [])
-  taken_line reader mid new_reader input between new_input lines count taken comes line rest = record {
-    each = all-append IsLine lines (take count (unread between) ∷ []) taken.each (line, tt);
-    all = subst (Consumes (bytes_known remaining reader) (bytes_known remaining new_reader)) same (Consumes-join (bytes_known remaining reader) (bytes_known remaining mid) (bytes_known remaining new_reader) (all_of lines ++ unread input) comes.0 taken.all comes.2);
-  }
+  -- what was read and taken is what came
+  taken_bytes : (reader mid new_reader : Counted R) (input between new_input : Input) (lines : List (List ℕ)) (count : ℕ) → AreTaken remaining reader mid input lines → ComesBehind remaining mid new_reader input between
+      → unread new_input ≡ drop count (unread between)
+      → Consumes (bytes_known remaining reader) (bytes_known remaining new_reader) (all_of (lines ++ take count (unread between) ∷ []) ++ unread new_input)
+  taken_bytes reader mid new_reader input between new_input lines count taken comes rest =
+      subst (Consumes (bytes_known remaining reader) (bytes_known remaining new_reader)) same (Consumes-join (bytes_known remaining reader) (bytes_known remaining mid) (bytes_known remaining new_reader) (all_of lines ++ unread input) comes.0 taken.all comes.2)
     where
       here : List ℕ
       here = take count (unread between)
@@ -96,18 +132,47 @@ module _ {R : Type 0} (remaining : Known R) where
           ∙ sym (append_assoc (all_of lines) (here ++ []) (unread new_input))
           ∙ ap (λ (l : List ℕ). l ++ unread new_input) (sym (flat_map-append (λ (l : List ℕ). l) lines (here ∷ [])))
 
+  -- a line was read and taken
+  pub taken_line : (reader mid new_reader : Counted R) (input between new_input : Input) (lines : List (List ℕ)) (count : ℕ) (last : Bool) → AreTaken remaining reader mid input lines
+      → ComesBehind remaining mid new_reader input between → last ≡ false → IsNext last (take count (unread between)) → unread new_input ≡ drop count (unread between)
+      → AreTaken remaining reader new_reader new_input (lines ++ take count (unread between) ∷ [])
+  taken_line reader mid new_reader input between new_input lines count last taken comes more line rest = record {
+    each = all-append IsWholeLine lines (take count (unread between) ∷ []) taken.each (subst (λ (b : Bool). IsNext b (take count (unread between))) more line, tt);
+    all = taken_bytes reader mid new_reader input between new_input lines count taken comes rest;
+  }
+
+  -- the last one was
+  pub taken_last : (reader mid new_reader : Counted R) (input between new_input : Input) (lines : List (List ℕ)) (count : ℕ) (last : Bool) → AreTaken remaining reader mid input lines
+      → ComesBehind remaining mid new_reader input between → last ≡ true → IsNext last (take count (unread between)) → unread new_input ≡ drop count (unread between) → count ≡ length (unread between)
+      → IsAtEnd (bytes_known remaining new_reader) → AreRead remaining reader new_reader (lines ++ take count (unread between) ∷ [])
+  taken_last reader mid new_reader input between new_input lines count last taken comes none line rest all ended = record {
+    each = then_last lines (take count (unread between)) taken.each (subst (λ (b : Bool). IsNext b (take count (unread between))) none line);
+    all =
+        subst (Consumes (bytes_known remaining reader) (bytes_known remaining new_reader))
+        (ap (λ (l : List ℕ). all_of (lines ++ take count (unread between) ∷ []) ++ l) (rest ∙ ap (λ (n : ℕ). drop n (unread between)) all ∙ drop-length (unread between)) ∙ append-nil (all_of (lines ++ take count (unread between) ∷ [])))
+        (taken_bytes reader mid new_reader input between new_input lines count taken comes rest);
+    ended = ended;
+  }
+
   -- none yet
   pub taken_none : (reader : Counted R) (input : Input) → unread input ≡ [] → AreTaken remaining reader reader input []
   taken_none reader input empty = record { each = tt; all = subst (Consumes (bytes_known remaining reader) (bytes_known remaining reader)) (sym empty) (Consumes-none (bytes_known remaining reader)) }
 
-  -- all of them
-  pub all_read : (reader mid new_reader : Counted R) (input new_input : Input) (lines : List (List ℕ)) → AreTaken remaining reader mid input lines → ComesBehind remaining mid new_reader input new_input
-      → unread new_input ≡ [] → IsAtEnd (bytes_known remaining new_reader) → AreRead remaining reader new_reader lines
-  all_read reader mid new_reader input new_input lines taken comes empty ended = record {
-    each = taken.each;
+  -- all of them were, and nothing is left
+  pub all_read : (reader mid new_reader : Counted R) (input new_input : Input) (lines : List (List ℕ)) (count : ℕ) (last : Bool) → AreTaken remaining reader mid input lines
+      → ComesBehind remaining mid new_reader input new_input → count ≡ 0 → IsNext last (take count (unread new_input))
+      → (last ≡ true → (count ≡ length (unread new_input)) × IsAtEnd (bytes_known remaining new_reader)) → AreRead remaining reader new_reader lines
+  all_read reader mid new_reader input new_input lines count last taken comes none line left = record {
+    each = whole_lines lines taken.each;
     all =
         subst (Consumes (bytes_known remaining reader) (bytes_known remaining new_reader))
         (append_assoc (all_of lines) (unread input) comes.0 ∙ ap (λ (l : List ℕ). all_of lines ++ l) (sym comes.1 ∙ empty) ∙ append-nil (all_of lines))
         (Consumes-join (bytes_known remaining reader) (bytes_known remaining mid) (bytes_known remaining new_reader) (all_of lines ++ unread input) comes.0 taken.all comes.2);
-    ended = ended;
+    ended = here.1;
   }
+    where
+      here : (count ≡ length (unread new_input)) × IsAtEnd (bytes_known remaining new_reader)
+      here = left (is_the_last last (unread new_input) count none line)
+
+      empty : unread new_input ≡ []
+      empty = nil_from_length (unread new_input) (sym here.0 ∙ none)

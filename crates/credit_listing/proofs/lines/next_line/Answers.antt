@@ -14,7 +14,7 @@ returns-in-Some-clause-line g c =
     (subst (IsFirstByte (is_byte 10) (drop c.loop.seen c.unread.result.now)) c.in-Some.is (subst (λ (h : List ℕ). IsFirstByte (is_byte 10) h c.memchr.result) (rest_is c.loop.seen c.unread.result.now) c.memchr.ensures)) in
     let long = length-drop c.loop.seen bytes in
     let high = found.0.high in
-    found_line bytes c.loop.seen c.in-Some.place c.loop.invariant.none (omega (arith, long, high)) found.0.before
+    found_line bytes c.loop.seen c.in-Some.place c.loop.invariant.none (omega (arith, long, high)) found.0.before found.1
 
 pub returns-then-not-branch-clause-line : goal.returns-then-not-branch-clause-line
 returns-then-not-branch-clause-line g c =
