@@ -35,6 +35,9 @@ pub trait Door {
     /// For how many seconds, as `patience` says, it is waited for the peer of a connection to take what goes to it.
     ghost given_patience: { Self.Given → ℕ };
 
+    /// It, before and after no connection could be accepted by it.
+    ghost may_fail: { Self → Self → Type 0 };
+
     /// The number of the connection whose peer sends this.
     ghost sent_by: { Self.Sent → ℕ };
 
@@ -56,6 +59,7 @@ pub trait Door {
         ensures patient { IfOk result (λ ways. (sent_patience ways.0 ≡ patience self.old) × (given_patience ways.1 ≡ patience self.old)) }
         ensures waits { patience self.new ≡ patience self.old }
         ensures numbered { IfOk result (λ ways. (sent_by ways.0 ≡ accepted self.new) × (given_to ways.1 ≡ accepted self.new)) }
+        ensures failed { OnErr result (may_fail self.old self.new) }
         ensures err { OnErr result ((accepted self.new ≡ accepted self.old) × (has_failed self.new ≡ true)) };
 
     /// Lets a connection go, so that its last answer arrives.

@@ -52,9 +52,13 @@ impl<'a> Machine for ThisMachine<'a> {
 
     ghost fails_to_look = { λ path kind. Unit {0} };
 
+    ghost finds_opened = { λ path look. Unit {0} };
+
+    ghost fails_opened = { λ path. Unit {0} };
+
     ghost is_opened = { λ path. Unit {0} };
 
-    ghost fails_to_open = { λ path error. Unit {0} };
+    ghost fails_to_open = { λ path error leaves. Unit {0} };
 
     ghost is_made = { λ path. Unit {0} };
 
@@ -64,18 +68,24 @@ impl<'a> Machine for ThisMachine<'a> {
         self.runtime.alloc()
     }
 
-    fn look(&self, path: &str) -> io::Result<Look> {
-        let found = fs::metadata(self.runtime, path)?;
-        Ok(Look {
-            is_file: found.is_file(),
-            len: found.len(),
-            others_write: found.permissions().mode() & OTHERS_WRITE != 0,
-        })
+    fn look_again(&self, path: &str) -> io::Result<Look> {
+        look_at(self.runtime, path)
     }
 
-    fn make_private(&self, path: &str) {
+    fn make_private(&self, path: &str) -> io::Result<Look> {
         let _ = fs::set_permissions(self.runtime, path, Permissions::from_mode(OWN));
+        look_at(self.runtime, path)
     }
+}
+
+/// What is at a path, or where a link there leads.
+fn look_at(runtime: &HostRuntime, path: &str) -> io::Result<Look> {
+    let found = fs::metadata(runtime, path)?;
+    Ok(Look {
+        is_file: found.is_file(),
+        len: found.len(),
+        others_write: found.permissions().mode() & OTHERS_WRITE != 0,
+    })
 }
 
 /// What opens one database on this machine.
@@ -83,6 +93,10 @@ impl<'a> Machine for ThisMachine<'a> {
 pub struct OneDatabase;
 
 impl<'a> OpensFiles<OneDatabase> for ThisMachine<'a> {
+    fn look(&self, _opener: &OneDatabase, path: &str) -> io::Result<Look> {
+        look_at(self.runtime, path)
+    }
+
     fn open_at<S: Start>(
         &self,
         opener: OneDatabase,

@@ -1,7 +1,7 @@
 //! The network of the machine that the program runs on. What the program does to it, it does by these calls.
-ghost use Rattle.std.specs.Prelude.{None};
+ghost use Rattle.std.specs.Prelude.{None, false};
 
-use society_host::{Listener, Port, Stream};
+use society_host::{Came, Listener, Port, Stream};
 use std::io::{self, Read, Write};
 use std::net::{Shutdown, SocketAddrV4, TcpListener, TcpStream};
 use std::time::Duration;
@@ -40,14 +40,44 @@ pub struct OpenPort {
 }
 
 impl Listener for OpenPort {
-    type Stream = Socket;
+    type Came = NewConnection;
 
     // Nor a connection to its listener.
-    ghost accepts = { λ port stream new_port. Unit {0} };
+    ghost accepts = { λ port came new_port. Unit {0} };
 
-    fn accept(&mut self) -> io::Result<Socket> {
+    ghost may_fail = { λ port. Unit {0} };
+
+    fn accept(&mut self) -> io::Result<NewConnection> {
         let (stream, _) = self.listener.accept()?;
-        Ok(Socket::new(stream))
+        Ok(NewConnection { stream })
+    }
+}
+
+/// A connection that came in.
+#[derive(Drop)]
+pub struct NewConnection {
+    stream: TcpStream,
+}
+
+impl Came for NewConnection {
+    type Stream = Socket;
+
+    ghost has_handles = { λ came sent given. Unit {0} };
+
+    ghost may_fail = { λ came. Unit {0} };
+
+    fn handles(self) -> Result<(Socket, Socket), (io::Error, NewConnection)> {
+        match self.stream.try_clone() {
+            Ok(other) => {
+                let NewConnection { stream } = self;
+                Ok((Socket::new(stream), Socket::new(other)))
+            }
+            Err(error) => Err((error, self)),
+        }
+    }
+
+    fn let_go(self) {
+        drop(self);
     }
 }
 
@@ -75,14 +105,9 @@ impl Stream for Socket {
 
     ghost contents = { λ socket. None };
 
-    ghost is_other = { λ socket other. Unit {0} };
+    ghost is_shut = { λ socket. false };
 
     ghost is_gone = { λ socket. Unit {0} };
-
-    fn another(&self) -> io::Result<Socket> {
-        let stream = self.stream.try_clone()?;
-        Ok(Socket::new(stream))
-    }
 
     // Where the system refuses a wait, the connection is served all the same: no byte of it failed.
     fn read_within(&mut self, wait: Duration, buffer: &mut [u8]) -> io::Result<usize> {

@@ -1,5 +1,5 @@
 -- What connections come to that are served one after another, and the lines that are printed of them.
-use Rattle.std.specs.Prelude.{◌≡◌, ◌⊎◌, ℕ, ◌<◌, ◌≤◌, Bool, true, false, IfOk, IsTrue, List, ⊤, ◌++◌, Option, Result, Ok, Err, codes, length}
+use Rattle.std.specs.Prelude.{◌≡◌, ◌≢◌, ◌⊎◌, ℕ, ◌<◌, ◌≤◌, Bool, true, false, IfOk, IsTrue, List, ⊤, ◌++◌, Option, Result, Ok, Err, codes, length}
 use Rattle.std.specs.List.{AllByRecursion}
 use Rattle.std.specs.declared.net.socket_addr.SocketAddrV4.{SocketAddrV4}
 use Rattle.http_desk.specs.Serves.{AreAnswered}
@@ -9,6 +9,7 @@ use Rattle.share_rules.specs.declared.office.Office.{Office}
 use Rattle.credit_listing.specs.Answered.{BreaksListing, EndsListing, ListsCredits}
 use Rattle.sqlite.specs.Files.{file_state}
 use Rattle.sqlite.specs.Held.{Held, IsNew}
+use Rattle.sqlite.specs.Effect.{Database}
 use Rattle.sqlite.specs.State as connection
 use Rattle.sqlite_trees.specs.Tree.{Trees}
 use Rattle.sqlite_disk.specs.declared.Disk as disk
@@ -16,10 +17,13 @@ use Rattle.sqlite_store.specs.declared.store.FileStore.{FileStore}
 use Rattle.society_core.specs.Book.{Book, empty_book}
 use Rattle.society_core.specs.State.{HasFailed, State}
 use Rattle.society_rows.specs.Effects.{MayFail}
+use Rattle.society_rows.specs.Finding.{IsFound}
 use Rattle.society_rows.specs.Layouts.{HasOlder}
 use Rattle.society_rows.specs.NewBook.{IsBare}
 use Rattle.society_rows.specs.Stored.{HasLayout}
 use Rattle.society_rows.specs.declared.fault.RowFault.{RowFault}
+use Rattle.society_rows.specs.declared.finding.Found.{Found}
+use Rattle.society_rows.specs.declared.finding.Found.TheVariants as finding
 use Rattle.society_rows.specs.declared.older.OlderLayout.{OlderLayout}
 use Rattle.society_book.specs.BookRows.{book_of}
 use Rattle.society_opening.specs.Existing.{FindsSoundly, IsSoundIn, SurvivesTaking, WhenOpen}
@@ -38,7 +42,8 @@ use Rattle.society_commands.specs.declared.listened.Listened.{Listened}
 use Rattle.society_commands.specs.declared.listened.Listened.TheVariants as heard
 use Rattle.society_commands.specs.declared.opening.Job.{Job}
 use Rattle.society_commands.specs.declared.trouble.Trouble.{Trouble}
-use Rattle.society_commands.specs.declared.trouble.Trouble.TheVariants.{Database, NoConnection, NoListener, Orders}
+use Rattle.society_commands.specs.declared.trouble.Trouble.TheVariants as trouble
+use Rattle.society_commands.specs.declared.trouble.Trouble.TheVariants.{NoConnection, NoListener, Orders}
 use Rattle.society_commands.specs.Troubles.{Tells, TellsOpened, Warns}
 use Rattle.society_arguments.specs.Words.{Asked, AsksAudit, AsksCredit, AsksReplay, AsksServe, Serving, serving_of}
 
@@ -131,7 +136,7 @@ pub record IsNotSound (office : Office) (fault : OpenFault) (found left : connec
 
 -- and this fault was told
 abbrev pub TellsUnsound : Office → connection.State → connection.State → (Trouble → Type 0) → Type 0
-TellsUnsound office found left Told = (fault : OpenFault) × IsNotSound office fault found left × Told (Database fault)
+TellsUnsound office found left Told = (fault : OpenFault) × IsNotSound office fault found left × Told (trouble.Database fault)
 
 -- a database was found to hold a sound book of the office with what is derived from it, or to be of an older layout and stand for one that
 -- does; it shows that still, and a crash leaves what it left before
@@ -168,7 +173,7 @@ FindsSound {F = F} {g = g} opens path office contents out new_out rest =
 abbrev pub FindsUnsound : {O F W E : Type 0} {g : disk.Ghosts F} → Opens O F → O → List ℕ → Office → Counted W → Counted W
     → (E → Option (List ℕ)) → Counted E → Counted E → Left F O g → Type 0
 FindsUnsound {F = F} {g = g} opens opener path office out new_out says err new_err rest =
-    (((fault : OpenFault) × LeavesRefused opens opener path true fault rest × Tells says err new_err (Database fault))
+    (((fault : OpenFault) × LeavesRefused opens opener path true fault rest × Tells says err new_err (trouble.Database fault))
     ⊎ ((conn : Held (FileStore F g)) × IsOpenedAt opens path true conn
     × ((ended : Held (FileStore F g)) × TellsUnsound office (file_state conn) (file_state ended) (TellsOpened opens says err new_err path)
     × (rest ≡ left.Connection ended))))
@@ -184,9 +189,13 @@ pub record ShowsStill (old new : connection.State) : Type 0 where
 abbrev pub ListsOver : connection.State → connection.State → (Trees → Type 0) → Type 0
 ListsOver old new Lists = connection.HasCleanDisk new → HasLayout old.now → Lists old.now.trees
 
--- by the tables of a database, where the disk told the truth, this was listed
-abbrev pub WhereClean : connection.State → connection.State → (Trees → Type 0) → Type 0
-WhereClean old new Lists = connection.HasCleanDisk new → Lists old.now.trees
+-- this holds of a database, where the disk told the truth
+abbrev pub WhereClean : connection.State → connection.State → (Database → Type 0) → Type 0
+WhereClean old new Holds = connection.HasCleanDisk new → Holds old.now
+
+-- a database was found to be of no layout, or of another one than 3
+abbrev pub FindsOther : Database → Type 0
+FindsOther db = (what : Found) × IsFound db what × (what ≢ finding.Layout)
 
 -- by the tables of a database, where it has layout 3, a listing that ended said this
 abbrev pub EndsOver : {R W E : Type 0} → connection.State → connection.State → Office → (R → Option (List ℕ)) → (W → Option (List ℕ)) → (E → Option (List ℕ))
@@ -223,18 +232,18 @@ ListsSome {E = E} office remaining contents says reader new_reader out new_out e
     ⊎ ((fault : DeskFault) × (between : Counted E) × BreaksListing office remaining contents says reader new_reader out new_out err between db fault
     × Tells says between new_err (Orders fault))
 
--- why not all orders were answered by rows over tables of which this is known: they are of another layout, which was told, and nothing was read or
--- written; or a row could not be had, which was told last; or not all that was listed were
-abbrev pub StopsListing : {R W E : Type 0} → ((Trees → Type 0) → Type 0) → Office → (R → Option (List ℕ)) → (W → Option (List ℕ)) → (E → Option (List ℕ)) → Counted R → Counted R
+-- why not all orders were answered by rows over a database of which this is known: it is of another layout, which was told, and nothing was read
+-- or written; or a row could not be had, which was told last; or not all that was listed were
+abbrev pub StopsListing : {R W E : Type 0} → ((Database → Type 0) → Type 0) → Office → (R → Option (List ℕ)) → (W → Option (List ℕ)) → (E → Option (List ℕ)) → Counted R → Counted R
     → Counted W → Counted W → Counted E → Counted E → Type 0
 StopsListing {E = E} Over office remaining contents says reader new_reader out new_out err new_err =
-    ((new_reader ≡ reader) × (new_out ≡ out) × Tells says err new_err (Database Schema))
-    ⊎ (((fault : RowFault) × (between : Counted E) × Tells says between new_err (Database (open_fault_by fault)))
-    ⊎ Over (ListsSome office remaining contents says reader new_reader out new_out err new_err))
+    (Over FindsOther × (new_reader ≡ reader) × (new_out ≡ out) × Tells says err new_err (trouble.Database Schema))
+    ⊎ (((fault : RowFault) × (between : Counted E) × Tells says between new_err (trouble.Database (open_fault_by fault)))
+    ⊎ Over (λ db. ListsSome office remaining contents says reader new_reader out new_out err new_err db.trees))
 
--- what a listing that was done over what a connection was found with says of its tables
-abbrev pub OverFound : connection.State → connection.State → (Trees → Type 0) → Type 0
-OverFound found left Lists = WhenOpen found left (IsTrue left.is_open → Lists found.committed.trees)
+-- what a listing that was done over what a connection was found with says of its database
+abbrev pub OverFound : connection.State → connection.State → (Database → Type 0) → Type 0
+OverFound found left Holds = WhenOpen found left (IsTrue left.is_open → Holds found.committed)
 
 -- why not all orders were answered by rows over a database: it is not the office's or not sound, which was told, and nothing was read or written;
 -- or a listing stopped
@@ -249,7 +258,7 @@ StopsOver office found left remaining contents says reader new_reader out new_ou
 abbrev pub StopsCrediting : {O F R W E : Type 0} {g : disk.Ghosts F} → Opens O F → O → List ℕ → Office → (R → Option (List ℕ)) → (W → Option (List ℕ)) → (E → Option (List ℕ))
     → Counted R → Counted R → Counted W → Counted W → Counted E → Counted E → Left F O g → Type 0
 StopsCrediting {F = F} {E = E} {g = g} opens opener path office remaining contents says reader new_reader out new_out err new_err rest =
-    ((fault : OpenFault) × LeavesRefused opens opener path true fault rest × Tells says err new_err (Database fault) × (new_reader ≡ reader) × (new_out ≡ out))
+    ((fault : OpenFault) × LeavesRefused opens opener path true fault rest × Tells says err new_err (trouble.Database fault) × (new_reader ≡ reader) × (new_out ≡ out))
     ⊎ ((between : Counted E) × Warns opens says err between path × (conn : Held (FileStore F g)) × IsOpenedAt opens path true conn
     × ((ended : Held (FileStore F g)) × CreditsOver office (file_state conn) (file_state ended) 1 (λ db. ⊤)
     × StopsOver office (file_state conn) (file_state ended) remaining contents says reader new_reader out new_out between new_err × (rest ≡ left.Connection ended)))
@@ -290,7 +299,7 @@ LeavesBroken net files host s found (Ok ended) contents out new_out says err new
     StopsServingDatabase net files.state s.office s.existing (file_state found) ended contents out new_out s.place (Tells says err new_err) listened
 LeavesBroken net files host s found (Err left) contents out new_out says err new_err listened =
     (fault : OpenFault) × IsNotOpened s.office s.existing fault (file_state found) (file_state left) × (new_out ≡ out)
-    × Tells says err new_err (Database fault) × IsUnheard host listened
+    × Tells says err new_err (trouble.Database fault) × IsUnheard host listened
 
 -- the database of a path was opened, as many connections as were asked for were served over it, and its store was closed as they left it
 abbrev pub ServesOpened : {F N D R V O S W : Type 0} → Network N D R V → (files : FileTables F O S)
@@ -306,7 +315,7 @@ abbrev pub StopsServing : {F N D R V O S W E : Type 0} → Network N D R V → (
     → N → O → Serving → (W → Option (List ℕ)) → Counted W → Counted W → (E → Option (List ℕ)) → Counted E → Counted E
     → Left F O files.file → Listened N D → Type 0
 StopsServing {F = F} {S = S} {E = E} net files host opener s contents out new_out says err new_err rest listened =
-    ((fault : OpenFault) × LeavesRefused files.opens opener s.path s.existing fault rest × (new_out ≡ out) × Tells says err new_err (Database fault)
+    ((fault : OpenFault) × LeavesRefused files.opens opener s.path s.existing fault rest × (new_out ≡ out) × Tells says err new_err (trouble.Database fault)
     × IsUnheard host listened)
     ⊎ ((conn : Held (FileStore F files.file)) × IsOpenedAt files.opens s.path s.existing conn
     × ((between : Counted E) × Warns files.opens says err between s.path

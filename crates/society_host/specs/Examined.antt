@@ -43,13 +43,17 @@ IsToldUnread {F = F} g reads path =
     ⊎ (((file : F) × (g.is_file path file ⊎ g.is_log path file) × ¬ IsTrue (reads.is_known file))
     ⊎ ((db : F) × (log : F) × g.is_file path db × g.is_log path log × ¬ AreKnown reads log db)))
 
+-- the database at a path has no log, or one that is too short to have a page
+abbrev pub LacksLogPages : {M F : Type 0} → Ghosts M F → Reads F → List ℕ → Type 0
+LacksLogPages {F = F} g reads path = g.lacks_log path ⊎ ((log : F) × g.is_log path log × (IsTrue (reads.is_known log) → length (reads.bytes log) < 56))
+
 -- Why a database whose file and log were read is not opened: a log that no stop of the office leaves so, a file with no table and no page sums,
 -- or that they could not be read.
 abbrev pub IsToldExamined : {M F : Type 0} → Ghosts M F → Reads F → List ℕ → OpenFault → Type 0
 IsToldExamined {F = F} g reads path told =
     IsToldUnread g reads path told
     ⊎ (((told ≡ fault.Log) × ((db : F) × (log : F) × g.is_file path db × g.is_log path log × (AreKnown reads log db → ¬ Stands (reads.bytes log) (reads.bytes db))))
-    ⊎ ((told ≡ fault.Empty) × ((db : F) × g.is_file path db × (IsTrue (reads.is_known db) → HasNoTable (reads.bytes db)))))
+    ⊎ ((told ≡ fault.Empty) × LacksLogPages g reads path × ((db : F) × g.is_file path db × (IsTrue (reads.is_known db) → HasNoTable (reads.bytes db)))))
 
 -- what is told of a file in which no database was found: by its first bytes, sixteen or all that it has; or it could not be read
 abbrev pub IsToldOf : {F : Type 0} → Reads F → F → OpenFault → Type 0

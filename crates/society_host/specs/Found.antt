@@ -1,5 +1,5 @@
 -- What is found of a file when it is opened.
-use Rattle.std.specs.Prelude.{◌≡◌, ◌⊎◌, ℕ, List, false, true}
+use Rattle.std.specs.Prelude.{◌≡◌, ◌⊎◌, ℕ, Bool, List, false, true}
 use Rattle.sqlite.specs.Files.{IsBlankAs, file_state}
 use Rattle.sqlite.specs.Held.{Held}
 use Rattle.sqlite.specs.Start.{FindsIn}
@@ -35,6 +35,6 @@ pub record IsOpenedSo {M R F : Type 0} {g : Ghosts F} (m : Machine M) (files : F
 abbrev pub WhyForbidden : {M R : Type 0} → Machine M → Files M R → Reads R → List ℕ → OpenFault → Type 0
 WhyForbidden m files reads path told = FailsToFind m path told ⊎ IsToldExamined files reads path told
 
--- why one could not be opened there: by the error with which opening it failed
-abbrev pub WhyUnopened : {M R : Type 0} → Machine M → Files M R → Reads R → List ℕ → OpenFault → Type 0
-WhyUnopened m files reads path told = (error : Error) × m.fails_to_open path error × FaultsAs (IsToldNone files reads path) error told
+-- why one could not be opened there, with or without files left: by the error with which opening it failed so
+abbrev pub WhyUnopened : {M R : Type 0} → Machine M → Files M R → Reads R → List ℕ → Bool → OpenFault → Type 0
+WhyUnopened m files reads path leaves told = (error : Error) × m.fails_to_open path error leaves × FaultsAs (IsToldNone files reads path) error told

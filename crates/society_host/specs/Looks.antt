@@ -3,6 +3,7 @@ use Rattle.std.specs.Prelude.{◌≡◌, ◌⊎◌, ◌<◌, ◌≤◌, ◌++◌
 use Rattle.std.specs.declared.io.ErrorKind.{ErrorKind}
 use Rattle.society_opening.specs.declared.open_fault.OpenFault.{OpenFault}
 use Rattle.society_opening.specs.declared.open_fault.OpenFault.TheVariants as fault
+use Rattle.society_host.specs.HasBytes.{HasBytes}
 use Rattle.society_host.specs.Refusals.{is_absent}
 use Rattle.society_host.specs.declared.look.Look.{Look}
 use Rattle.society_host.specs.declared.machine.Machine.{Ghosts}
@@ -30,7 +31,7 @@ LacksPages m path = ((look : Look) × m.finds (log_path path) look × (look.len 
 -- Whether a database is at a path: a file with a byte in it is; or none is, and no log with a page stands beside, which would be what is left of
 -- one.
 abbrev pub FindsAt : {M : Type 0} → Ghosts M → List ℕ → Bool → Type 0
-FindsAt m path true = (look : Look) × m.finds path look × (look.is_file ≡ true) × (0 < look.len)
+FindsAt m path true = HasBytes m.finds path
 FindsAt m path false = LacksBytes m path × LacksPages m path
 
 -- why it is not known whether a log stands beside, or a log with a page that stands there alone is told as damage
@@ -46,9 +47,9 @@ FailsToFind m path told =
     ((told ≡ fault.Store) × (((look : Look) × m.finds path look × (look.is_file ≡ false)) ⊎ CannotLook m path))
     ⊎ (LacksBytes m path × FailsBeside m path told)
 
--- whether others may write the file at a path, by a look at it; where that failed they are not told to
+-- whether others may write the file at a path that was opened, by a look at it; where that failed they are not told to
 abbrev pub AreSeen : {M : Type 0} → Ghosts M → List ℕ → Bool → Type 0
-AreSeen m path others = ((look : Look) × m.finds path look × (look.others_write ≡ others)) ⊎ ((others ≡ false) × ((kind : ErrorKind) × m.fails_to_look path kind))
+AreSeen m path others = ((look : Look) × m.finds_opened path look × (look.others_write ≡ others)) ⊎ ((others ≡ false) × m.fails_opened path)
 
 -- what a new file and its log are left to: their owner alone
 abbrev pub ArePrivate : {M : Type 0} → Ghosts M → List ℕ → Type 0

@@ -51,16 +51,16 @@ HoldsNone image = ¬ (((db : Trees) × HoldsDatabase image db) ⊎ IsNothing ima
 abbrev pub IsUnread : Type 0 → OpenFault → Type 0
 IsUnread Fails told = (told ≡ fault.Memory) ⊎ ((told ≡ fault.Store) × Fails)
 
--- Opening failed, and these files are left that were as they are known to be when they are opened, or none: damage is told only where they hold
+-- Opening failed, with or without files left, and these are left that were as they are known to be when they are opened, or none: damage is told only where they hold
 -- no database or the disk failed, and they are left so that they recover as before.
-abbrev pub LeavesRefusedFiles : {D : Type 0} {g : Ghosts D} → (OpenFault → Type 0) → (Files D → Type 0) → OpenFault → Option (Leftover D g) → Type 0
-LeavesRefusedFiles Fails IsAsOpened told None = Fails told
+abbrev pub LeavesRefusedFiles : {D : Type 0} {g : Ghosts D} → (Bool → OpenFault → Type 0) → (Files D → Type 0) → OpenFault → Option (Leftover D g) → Type 0
+LeavesRefusedFiles Fails IsAsOpened told None = Fails false told
 LeavesRefusedFiles {D = D} {g = g} Fails IsAsOpened told (Some left) =
-    Fails told × ((files : Files D) × IsAsOpened files
+    Fails true told × ((files : Files D) × IsAsOpened files
     × (IsCleanLeft left → (told ≡ fault.Damaged → HoldsNone (image_of g files) ⊎ MoreFaults (faults_of g files) (faults_left left)) × LeavesFiles files left))
 
 -- no database was opened: what was known before forbade it, and what could have opened one was not used; or opening failed, and this is left
-abbrev pub RefusesFiles : {D O : Type 0} {g : Ghosts D} → (OpenFault → Type 0) → (OpenFault → Type 0) → (Files D → Type 0) → OpenFault → Left D O g → Type 0
+abbrev pub RefusesFiles : {D O : Type 0} {g : Ghosts D} → (OpenFault → Type 0) → (Bool → OpenFault → Type 0) → (Files D → Type 0) → OpenFault → Left D O g → Type 0
 RefusesFiles Forbids Fails IsAsOpened told (Unopened opener) = Forbids told
 RefusesFiles Forbids Fails IsAsOpened told (Refused left) = LeavesRefusedFiles Fails IsAsOpened told left
 RefusesFiles Forbids Fails IsAsOpened told _ = ⊥

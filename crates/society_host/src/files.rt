@@ -4,6 +4,7 @@ ghost use Rattle.sqlite_std_file.specs.File.{IsFresh};
 ghost use Rattle.sqlite_wal.specs.Files.{image_at};
 ghost use Rattle.society_host.specs.Examined.{IsToldNone, IsToldOf};
 ghost use Rattle.society_host.specs.Found.{IsOpenedSo, WhyForbidden, WhyUnopened};
+ghost use Rattle.society_host.specs.HasBytes.{HasBytes};
 ghost use Rattle.society_host.specs.Looks.{ArePrivate, AreSeen, FailsBeside, FailsToFind, FindsAt, LacksPages, log_path};
 ghost use Rattle.society_host.specs.Refusals.{FaultsAs, RefusesFiles, fault_by_start, is_absent, presence_by_log};
 
@@ -62,7 +63,7 @@ impl<S: Start, M: OpensFiles<O> + ReadFiles + Copy, O> OpenDatabase for HostFile
         (WhyUnopened M.Machine M.ReadFiles M.File.ReadAt path) (λ files. IsFresh true files.log × IsFresh false files.db) fault rest };
 
     fn has_database(&self, path: &str) -> Result<bool, OpenFault> {
-        look(&self.machine, path)
+        look(&self.machine, &self.opener, path)
     }
 
     fn open_database(
@@ -73,7 +74,7 @@ impl<S: Start, M: OpensFiles<O> + ReadFiles + Copy, O> OpenDatabase for HostFile
             Ok(log) => log,
             Err(fault) => return Err((fault, Left::Unopened(self))),
         };
-        let was_there = match look(&self.machine, path) {
+        let was_there = match look(&self.machine, &self.opener, path) {
             Ok(was_there) => was_there,
             Err(fault) => return Err((fault, Left::Unopened(self))),
         };
@@ -108,26 +109,26 @@ fn log_path(alloc: Global, path: &str) -> Result<String, OpenFault>
 }
 
 /// Whether there is a database at a path, as `has_database` says.
-fn look<M: Machine>(machine: &M, path: &str) -> Result<bool, OpenFault>
+fn look<O, M: OpensFiles<O>>(machine: &M, opener: &O, path: &str) -> Result<bool, OpenFault>
     ensures found { IfOk result (FindsAt M.Machine path.now) }
     ensures failed { IfErr result (FailsToFind M.Machine path.now) }
 {
-    match machine.look(path) {
+    match machine.look(opener, path) {
         Ok(found) if !found.is_file => Err(OpenFault::Store),
         Ok(found) if found.len > 0 => Ok(true),
-        Ok(_) => without_log(machine, path),
-        Err(error) if is_absent(error.kind()) => without_log(machine, path),
+        Ok(_) => without_log(machine, opener, path),
+        Err(error) if is_absent(error.kind()) => without_log(machine, opener, path),
         Err(_) => Err(OpenFault::Store),
     }
 }
 
 /// That there is no database, where no log with a page stands beside: such a log is what is left of one.
-fn without_log<M: Machine>(machine: &M, path: &str) -> Result<bool, OpenFault>
+fn without_log<O, M: OpensFiles<O>>(machine: &M, opener: &O, path: &str) -> Result<bool, OpenFault>
     ensures found { IfOk result (λ there. (there ≡ false) × LacksPages M.Machine path.now) }
     ensures failed { IfErr result (FailsBeside M.Machine path.now) }
 {
     let log = log_path(machine.alloc(), path)?;
-    match machine.look(log.as_str()) {
+    match machine.look(opener, log.as_str()) {
         Ok(found) => presence_by_log(found.len),
         Err(error) if is_absent(error.kind()) => Ok(false),
         Err(_) => Err(OpenFault::Store),
@@ -146,17 +147,20 @@ fn presence_by_log(bytes: u64) -> Result<bool, OpenFault>
     }
 }
 
-/// Leaves a new file, and its log, to its owner alone. Whether others may write the file.
+/// Leaves a new file, and its log, to its owner alone. Whether others may write the file then.
 fn guard<M: Machine>(machine: &M, path: &str, log: &str, was_there: bool) -> bool
-    requires { was_there ≡ false → M.is_made path.now × M.is_made log.now }
+    requires made { was_there ≡ false → M.is_made path.now × M.is_made log.now }
+    requires found { was_there ≡ true → HasBytes M.finds path.now }
     ensures private { was_there ≡ false → M.is_private path.now × M.is_private log.now }
     ensures seen { AreSeen M.Machine path.now result }
 {
-    if !was_there {
-        machine.make_private(path);
-        machine.make_private(log);
-    }
-    match machine.look(path) {
+    let seen = if was_there {
+        machine.look_again(path)
+    } else {
+        let _ = machine.make_private(log);
+        machine.make_private(path)
+    };
+    match seen {
         Ok(found) => found.others_write,
         Err(_) => false,
     }

@@ -18,7 +18,7 @@ pub use files::HostFiles;
 pub use listening::{Host, HostDoor};
 pub use look::Look;
 pub use machine::Machine;
-pub use network::{Listener, Port, Stream};
+pub use network::{Came, Listener, Port, Stream};
 pub use opening::OpensFiles;
 pub use patience::Patient;
 pub use reading::ReadFiles;

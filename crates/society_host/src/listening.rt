@@ -1,10 +1,10 @@
 //! Where connections come in on this machine.
-ghost use Rattle.std.specs.Prelude.{◌≡◌, IfOk, true};
+ghost use Rattle.std.specs.Prelude.{◌≡◌, IfErr, IfOk, OnErr, false, true};
 ghost use Rattle.std.specs.IoError.{error_kind, raw_os_error};
-ghost use Rattle.society_host.specs.Parting.{AcceptsAnew, LetsGo};
+ghost use Rattle.society_host.specs.Parting.{AcceptsAnew, CannotAccept, LetsGo};
 ghost use Rattle.society_host.specs.Waiting.{IsUnspent, is_passing};
 
-use crate::network::{Listener, Port, Stream};
+use crate::network::{Came, Listener, Port, Stream};
 use crate::parting::part;
 use crate::patience::Patient;
 use desk_connections::{AcceptFault, Door, Listen};
@@ -69,7 +69,7 @@ pub struct HostDoor<C, L> {
 impl<C, L> HostDoor<C, L> {
     // Takes down that no connection could be accepted.
     fn fail(&mut self) -> AcceptFault
-        ensures { (self.new.accepted ≡ self.old.accepted) × (self.new.has_failed ≡ true) × (self.new.patience ≡ self.old.patience) }
+        ensures { self.new ≡ record self.old { has_failed = true } }
     {
         self.has_failed = true;
         AcceptFault
@@ -77,15 +77,17 @@ impl<C, L> HostDoor<C, L> {
 }
 
 impl<C: Clock + Copy, L: Listener> Door for HostDoor<C, L> {
-    type Sent = Patient<C, L::Stream>;
+    type Sent = Patient<C, <L::Came as Came>::Stream>;
 
-    type Given = Patient<C, L::Stream>;
+    type Given = Patient<C, <L::Came as Came>::Stream>;
 
     ghost accepted = { λ door. door.accepted };
 
     ghost has_failed = { λ door. door.has_failed };
 
     ghost patience = { λ door. door.patience };
+
+    ghost may_fail = { λ door new_door. CannotAccept L.Listener L.Came.Came door.listener new_door.listener door.accepted };
 
     ghost sent_patience = { λ way. way.waits.patience };
 
@@ -95,48 +97,61 @@ impl<C: Clock + Copy, L: Listener> Door for HostDoor<C, L> {
 
     ghost given_to = { λ way. way.number };
 
-    ghost admits = { λ door sent given new_door. AcceptsAnew L.Listener L.Stream.Stream door.listener sent.stream given.stream new_door.listener
+    ghost admits = { λ door sent given new_door. AcceptsAnew L.Listener L.Came.Came door.listener sent.stream given.stream new_door.listener
         × IsUnspent sent.waits × IsUnspent given.waits };
 
-    ghost parts = { λ door sent given new_door. L.Stream.is_gone given.stream × LetsGo L.Stream.Stream sent.stream × (new_door ≡ door) };
+    ghost parts = { λ door sent given new_door. L.Came.Stream.is_gone given.stream × LetsGo L.Came.Stream.Stream sent.stream × (new_door ≡ door) };
 
     /// What says nothing of the listener is tried again for half a minute: that no descriptor is left, or that a peer went before it was
     /// accepted. No read and no write of a connection waits longer than half a minute, where the system lets that be set, and each way no longer
     /// than the patience in all.
-    fn accept(&mut self) -> Result<(Patient<C, L::Stream>, Patient<C, L::Stream>), AcceptFault> {
+    fn accept(
+        &mut self,
+    ) -> Result<
+        (
+            Patient<C, <L::Came as Came>::Stream>,
+            Patient<C, <L::Came as Came>::Stream>,
+        ),
+        AcceptFault,
+    > {
         let Some(number) = self.accepted.checked_add(1) else {
             return Err(self.fail());
         };
-        let Ok(stream) = accept(&self.clock, &mut self.listener) else {
+        let Ok(came) = accept(&self.clock, &mut self.listener) else {
             return Err(self.fail());
         };
-        match another(&self.clock, &stream) {
-            Ok(other) => {
+        match handles(&self.clock, came) {
+            Ok((one, other)) => {
                 self.accepted = number;
-                let sent = Patient::new(self.clock, stream, number, self.patience);
+                let sent = Patient::new(self.clock, one, number, self.patience);
                 let given = Patient::new(self.clock, other, number, self.patience);
                 Ok((sent, given))
             }
-            Err(_) => {
-                stream.let_go();
+            Err(came) => {
+                came.let_go();
                 Err(self.fail())
             }
         }
     }
 
-    fn part(&mut self, sent: Patient<C, L::Stream>, given: Patient<C, L::Stream>) {
+    fn part(
+        &mut self,
+        sent: Patient<C, <L::Came as Came>::Stream>,
+        given: Patient<C, <L::Came as Came>::Stream>,
+    ) {
         given.into_stream().let_go();
         part(&self.clock, sent.into_stream());
     }
 }
 
 // The next connection at a listener, as `Door` says; the error is that of the last try.
-fn accept<C: Clock, L: Listener>(clock: &C, listener: &mut L) -> io::Result<L::Stream>
-    ensures accepted { IfOk result (λ stream. L.accepts listener.old stream listener.new) }
+fn accept<C: Clock, L: Listener>(clock: &C, listener: &mut L) -> io::Result<L::Came>
+    ensures accepted { IfOk result (λ came. L.accepts listener.old came listener.new) }
+    ensures err { OnErr result (L.may_fail listener.new × (listener.new ≡ listener.old)) }
 {
     for _ in 1..MOST_TRIES {
         match listener.accept() {
-            Ok(stream) => return Ok(stream),
+            Ok(came) => return Ok(came),
             Err(error) if is_passing(&error) => {
                 thread::sleep(clock, Duration::from_millis(PAUSE));
             }
@@ -146,19 +161,28 @@ fn accept<C: Clock, L: Listener>(clock: &C, listener: &mut L) -> io::Result<L::S
     listener.accept()
 }
 
-// A second handle of a connection, one for each of its ways; where no descriptor is left for it, it is tried as an accept is.
-fn another<C: Clock, S: Stream>(clock: &C, stream: &S) -> io::Result<S>
-    ensures { IfOk result (S.is_other stream.now) }
+// The two handles of a connection, one for each of its ways; where no descriptor is left for a second, it is tried as an accept is. Else the
+// connection, as it was.
+fn handles<C: Clock, T: Came>(clock: &C, came: T) -> Result<(T::Stream, T::Stream), T>
+    ensures handles { IfOk result (λ two. T.has_handles came two.0 two.1) }
+    ensures open { IfOk result (λ two. (T.Stream.is_shut two.0 ≡ false) × (T.Stream.is_shut two.1 ≡ false)) }
+    ensures err { IfErr result (λ left. T.may_fail came × (left ≡ came)) }
 {
+    let mut rest = came;
     for _ in 1..MOST_TRIES {
-        match stream.another() {
-            Err(error) if is_passing(&error) => {
+        match rest.handles() {
+            Ok(two) => return Ok(two),
+            Err((error, left)) if is_passing(&error) => {
                 thread::sleep(clock, Duration::from_millis(PAUSE));
+                rest = left;
             }
-            outcome => return outcome,
+            Err((_, left)) => return Err(left),
         }
     }
-    stream.another()
+    match rest.handles() {
+        Ok(two) => Ok(two),
+        Err((_, left)) => Err(left),
+    }
 }
 
 // Whether an error of accepting says nothing of the listener.

@@ -1,5 +1,5 @@
 //! All that the office asks of the network of the machine that it runs on.
-ghost use Rattle.std.specs.Prelude.{◌≡◌, ◌≤◌, ◌*◌, ◌^◌, IfOk, List, OnErr, Option, ℕ};
+ghost use Rattle.std.specs.Prelude.{◌≡◌, ◌≤◌, ◌*◌, ◌^◌, Bool, IfErr, IfOk, List, OnErr, Option, false, ℕ};
 ghost use Rattle.std.specs.Duration.{as_nanos};
 ghost use Rattle.std.specs.Io.{ReadsAtMost, WritesAtMost};
 ghost use Rattle.std.specs.Io.KnownBytes.{ReadConsumes, WriteAppends};
@@ -30,20 +30,49 @@ pub trait Port {
 
 /// What listens.
 pub trait Listener {
-    /// One handle of a connection. Whoever has one can't let go of it but by `let_go`.
-    type Stream: Stream;
+    /// A connection that came in.
+    type Came: Came;
 
-    /// It, before and after one connection came in, of which this is a handle.
-    ghost accepts: { Self → Self.Stream → Self → Type 0 };
+    /// It, before and after this connection came in.
+    ghost accepts: { Self → Self.Came → Self → Type 0 };
+
+    /// No connection can be accepted by it.
+    ghost may_fail: { Self → Type 0 };
 
     /// The next connection. The error is the system's; then it is as before.
-    fn accept(&mut self) -> io::Result<Self::Stream>
-        ensures accepted { IfOk result (λ stream. accepts self.old stream self.new) }
-        ensures err { OnErr result (self.new ≡ self.old) };
+    fn accept(&mut self) -> io::Result<Self::Came>
+        ensures accepted { IfOk result (λ came. accepts self.old came self.new) }
+        ensures err { OnErr result (may_fail self.new × (self.new ≡ self.old)) };
+}
+
+/// A connection that came in, of which nothing was read and to which nothing was written. Whoever has one can't let go of it but by `handles` and
+/// `let_go`.
+pub trait Came {
+    /// One handle of it.
+    type Stream: Stream;
+
+    /// These are its two handles.
+    ghost has_handles: { Self → Self.Stream → Self.Stream → Type 0 };
+
+    /// It can have no two.
+    ghost may_fail: { Self → Type 0 };
+
+    /// Its two handles, once: it is used up by it. The error is the system's, with the connection as it was.
+    fn handles(self) -> Result<(Self::Stream, Self::Stream), (io::Error, Self)>
+    where
+        Self: Sized,
+        ensures handles { IfOk result (λ two. has_handles self two.0 two.1) }
+        ensures open { IfOk result (λ two. (Self.Stream.Stream.is_shut two.0 ≡ false) × (Self.Stream.Stream.is_shut two.1 ≡ false)) }
+        ensures err { IfErr result (λ e. may_fail self × (e.1 ≡ self)) };
+
+    /// Lets it go unserved.
+    fn let_go(self)
+    where
+        Self: Sized;
 }
 
 /// One handle of a connection: what its peer sends is read by it, and what goes to that peer is written to it. None waits for its peer for longer
-/// than half a minute at once.
+/// than half a minute at once. Whoever has one can't let go of it but by `let_go`.
 pub trait Stream {
     /// What its peer sends from here on, where that is known.
     ghost remaining: { Self → Option (List ℕ) };
@@ -51,30 +80,26 @@ pub trait Stream {
     /// What went to its peer, where that is known.
     ghost contents: { Self → Option (List ℕ) };
 
-    /// Two handles of one connection.
-    ghost is_other: { Self → Self → Type 0 };
+    /// Whether nothing more can go to its peer.
+    ghost is_shut: { Self → Bool };
 
     /// It was let go of as it is.
     ghost is_gone: { Self → Type 0 };
-
-    /// Another handle of the same connection. The error is the system's.
-    fn another(&self) -> io::Result<Self>
-    where
-        Self: Sized,
-        ensures other { IfOk result (is_other self.now) };
 
     /// One read, as `Read` has it, that waits so long at most, where the system lets that be set. The error is the system's.
     fn read_within(&mut self, wait: Duration, buffer: &mut [u8]) -> io::Result<usize>
         requires { as_nanos wait ≤ 30 * 10 ^ 9 }
         ensures bound { ReadsAtMost result buffer.new }
         ensures bytes { ReadConsumes (remaining self.old) (remaining self.new) result buffer.new }
-        ensures unwritten { contents self.new ≡ contents self.old };
+        ensures unwritten { contents self.new ≡ contents self.old }
+        ensures open { is_shut self.new ≡ is_shut self.old };
 
     /// One write, as `Write` has it, that waits so long at most, where the system lets that be set. The error is the system's.
     fn write_within(&mut self, wait: Duration, bytes: &[u8]) -> io::Result<usize>
         requires { as_nanos wait ≤ 30 * 10 ^ 9 }
         ensures bound { WritesAtMost result bytes.now }
-        ensures bytes { WriteAppends (contents self.old) (contents self.new) result bytes.now };
+        ensures bytes { WriteAppends (contents self.old) (contents self.new) result bytes.now }
+        ensures open { is_shut self.new ≡ is_shut self.old };
 
     /// Ends what goes to the peer. The error is the system's.
     fn shut_writing(&mut self) -> io::Result<()>

@@ -1,6 +1,6 @@
 //! A connection that waits for its peer, but not for ever, and that a signal does not cut off: a process that is stopped and goes on again
 //! reads and writes on.
-ghost use Rattle.std.specs.Prelude.{◌≡◌, ◌≢◌, ◌≤◌, ◌*◌, ◌^◌, IfErr, IsErr};
+ghost use Rattle.std.specs.Prelude.{◌≡◌, ◌≢◌, ◌≤◌, ◌*◌, ◌^◌, IfErr, IsErr, false};
 ghost use Rattle.std.specs.Duration.{as_nanos};
 ghost use Rattle.std.specs.Io.{ReadsAtMost, WritesAtMost};
 ghost use Rattle.std.specs.Io.KnownBytes.{ReadConsumes, WriteAppends};
@@ -24,11 +24,13 @@ pub struct Patient<C: Clock, S: Stream> {
     stream: S,
     number: u64,
     waits: Waits,
+    ghost open: { S.is_shut stream ≡ false },
 }
 
 impl<C: Clock + Copy, S: Stream> Patient<C, S> {
     /// A way of the connection of this number, which waits for so many seconds in all.
     pub(crate) fn new(clock: C, stream: S, number: u64, patience: u32) -> Patient<C, S>
+        requires { S.is_shut stream ≡ false }
         ensures stream { result.stream ≡ stream }
         ensures number { result.number ≡ number }
         ensures patience { result.waits.patience ≡ patience }

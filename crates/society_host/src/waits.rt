@@ -46,7 +46,8 @@ impl Waits {
     /// How long the next read or write may wait: half a minute, or what is left of the patience; nothing where none is.
     pub(crate) fn next(&self) -> Option<Duration>
         ensures longest { IfSome result (λ wait. (0 < as_nanos wait) × (as_nanos wait ≤ 30 * 10 ^ 9)) }
-        ensures left { IfSome result (λ wait. as_nanos wait + as_nanos self.now.waited ≤ nanos_allowed self.now.patience self.now.moved) }
+        ensures left { IfSome result (λ wait. as_nanos wait
+            ≡ min (nanos_allowed self.now.patience self.now.moved - as_nanos self.now.waited) (30 * 10 ^ 9)) }
         ensures none { result ≡ None → nanos_allowed self.now.patience self.now.moved ≤ as_nanos self.now.waited }
     {
         let left = self.allowed().saturating_sub(self.waited);

@@ -72,20 +72,20 @@ kept_still s settled = record { was_open = λ clean opened. opened; shown = λ c
 pub over_any : (office : Office) (old new : State) (Lists : Trees → Type 0) → CreditsOver office old new 1 Lists → CreditsOver office old new 1 (λ db. ⊤)
 over_any office old new Lists over = record { shown = over.shown; sound = over.sound; listed = λ _ _ _ _. tt; crash = over.crash }
 
--- what was listed by tables that were audited is so of those that were found
-pub over_found : (office : Office) (old mid new : State) → FindsSoundly office old mid → ShowsStill mid new → (Lists : Trees → Type 0) → (HasCleanDisk new → Lists mid.now.trees)
-    → OverFound old new Lists
-over_found office old mid new sound kept Lists lists = λ clean opened again.
+-- what holds of a database that was audited is so of the one that was found
+pub over_found : (office : Office) (old mid new : State) → FindsSoundly office old mid → ShowsStill mid new → (Holds : Database → Type 0) → (HasCleanDisk new → Holds mid.now)
+    → OverFound old new Holds
+over_found office old mid new sound kept Holds holds = λ clean opened again.
     let shows = (sound (early clean) opened).1 (kept.was_open clean again) in
-    subst (λ (db : Database). Lists db.trees) shows.0 (lists clean)
+    subst Holds shows.0 (holds clean)
   where
     early : HasCleanDisk new → HasCleanDisk mid
     early clean = (let fell = kept.crash.clean in omega (clean, fell, arith))
 
 -- and so is why a listing stopped
-pub stops_found : {R W E : Type 0} (Over OverNow : (Trees → Type 0) → Type 0) (office : Office) (remaining : R → Option (List ℕ)) (contents : W → Option (List ℕ)) (says : E → Option (List ℕ))
-    (reader new_reader : Counted R) (out new_out : Counted W) (err new_err : Counted E) → ((Lists : Trees → Type 0) → Over Lists → OverNow Lists)
+pub stops_found : {R W E : Type 0} (Over OverNow : (Database → Type 0) → Type 0) (office : Office) (remaining : R → Option (List ℕ)) (contents : W → Option (List ℕ)) (says : E → Option (List ℕ))
+    (reader new_reader : Counted R) (out new_out : Counted W) (err new_err : Counted E) → ((Holds : Database → Type 0) → Over Holds → OverNow Holds)
     → StopsListing Over office remaining contents says reader new_reader out new_out err new_err → StopsListing OverNow office remaining contents says reader new_reader out new_out err new_err
-stops_found Over OverNow office remaining contents says reader new_reader out new_out err new_err lifts (inl other) = inl other
+stops_found Over OverNow office remaining contents says reader new_reader out new_out err new_err lifts (inl (other, unread, same, told)) = inl (lifts _ other, unread, same, told)
 stops_found Over OverNow office remaining contents says reader new_reader out new_out err new_err lifts (inr (inl row)) = inr (inl row)
 stops_found Over OverNow office remaining contents says reader new_reader out new_out err new_err lifts (inr (inr some)) = inr (inr (lifts _ some))

@@ -1,6 +1,6 @@
 -- Files in which no database was opened are refused for what the kit says of them.
-use Rattle.std.proofs.Common.{◌≡◌, ◌⊎◌, None, Option, Some, inl, inr, subst}
-use Rattle.std.specs.Prelude.{IfSome}
+use Rattle.std.proofs.Common.{◌≡◌, ◌⊎◌, Bool, None, Option, Some, inl, inr, subst}
+use Rattle.std.specs.Prelude.{IfSome, is_some}
 use Rattle.sqlite.specs.Files.{FailsToOpenFiles, IsCleanLeft, LeavesFiles, faults_left, faults_of, image_of}
 use Rattle.sqlite.specs.declared.error.Error.{Error}
 use Rattle.sqlite.specs.declared.file.Leftover.{Leftover}
@@ -27,7 +27,7 @@ module _ {D : Type 0} {g : Ghosts D} (IsToldNone : OpenFault → Type 0) where
   damage files left e told as_told (inr (inr (inr full))) damaged = absurd (no_store told (subst (λ (x : Error). FaultsAs IsToldNone x told) full.0 as_told) damaged)
 
   -- what the kit says of an opening that failed is what is said of a refusal
-  pub refuses : (Fails : OpenFault → Type 0) (Log Base : D → Type 0) (e : Error) (told : OpenFault) (left : Option (Leftover D g)) → Fails told → FaultsAs IsToldNone e told
+  pub refuses : (Fails : Bool → OpenFault → Type 0) (Log Base : D → Type 0) (e : Error) (told : OpenFault) (left : Option (Leftover D g)) → Fails (is_some left) told → FaultsAs IsToldNone e told
       → IfSome left (λ files. (held : Files D) × Log held.log × Base held.db × (IsCleanLeft files → FailsToOpenFiles held files e × LeavesFiles held files))
       → LeavesRefusedFiles Fails (λ files. Log files.log × Base files.db) told left
   refuses Fails Log Base e told None fails as_told cause = fails

@@ -1,4 +1,4 @@
-use Rattle.std.proofs.Common.{Bool, inl, inr, refl, subst}
+use Rattle.std.proofs.Common.{Bool, inl, inr, refl, rules, subst}
 use Rattle.sqlite.specs.Held.{state}
 use Rattle.society_commands.proofs.lemmas.CreditLemmas.{kept_still}
 use Rattle.credit_listing.specs.Answered.{ListsCredits}
@@ -32,4 +32,4 @@ pub returns-in-Err-clause-stopped : goal.returns-in-Err-clause-stopped
 returns-in-Err-clause-stopped g c = λ one. inr (inl (c.in-Err.fault, c.credits_listed.new.err, rw c.from.ensures at c.tell-in-Err.ensures.told))
 
 pub returns-in_default-clause-stopped : goal.returns-in_default-clause-stopped
-returns-in_default-clause-stopped g c = λ one. inl (refl, refl, c.tell.ensures.told)
+returns-in_default-clause-stopped g c = λ one. inl ((λ clean. (c.layout_found.result, c.layout_found.ensures.found, search rules)), refl, refl, c.tell.ensures.told)

@@ -1,14 +1,18 @@
-use Rattle.std.proofs.Common.{◌∙◌, inl, subst, sym}
+use Rattle.std.proofs.Common.{◌∙◌, Bool, inl, subst, sym}
 use Rattle.society_host.specs.Examined.{IsToldNone}
 use Rattle.society_host.specs.Found.{WhyUnopened}
+use Rattle.society_host.specs.Looks.{FindsAt}
 use Rattle.society_host.proofs.lemmas.LookLemmas.{lacks_by, looked_by}
 use Rattle.society_host.proofs.lemmas.RefusalLemmas.{refuses}
 use Rattle.society_host.proofs.files.HostFilesOpenDatabase.open_database.Goals as goal
 
 pub guard-others_write-requires : goal.guard-others_write-requires
-guard-others_write-requires g c = λ none.
-    let made = c.in-Ok-open_at.ensures.made (lacks_by g.M.Machine c.args.path.now c.in-Ok-look.was_there c.in-Ok-look.ensures.found none) in
-    (made.0, subst g.M.Machine.is_made (sym (c.as_str.ensures.value ∙ c.in-Ok.ensures.path)) made.1)
+guard-others_write-requires g c = record {
+  made = λ none.
+      let made = c.in-Ok-open_at.ensures.made (lacks_by g.M.Machine c.args.path.now c.in-Ok-look.was_there c.in-Ok-look.ensures.found none) in
+      (made.0, subst g.M.Machine.is_made (sym (c.as_str.ensures.value ∙ c.in-Ok.ensures.path)) made.1);
+  found = λ there. subst (λ (b : Bool). FindsAt g.M.Machine c.args.path.now b) there c.in-Ok-look.ensures.found;
+}
 
 pub returns-in-Ok-open_at-clause-opened : goal.returns-in-Ok-open_at-clause-opened
 returns-in-Ok-open_at-clause-opened g c = record {
