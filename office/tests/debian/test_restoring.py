@@ -64,6 +64,17 @@ def test_a_restore_without_a_program(copy: pathlib.Path, tmp_path: pathlib.Path)
     assert (done.returncode, done.stderr) == (1, f"restore: FAILED: there is no program {tmp_path / 'none'}\n")
 
 
+def test_an_audit_that_was_killed_finds_nothing_unsound(copy: pathlib.Path, tmp_path: pathlib.Path) -> None:
+    """Where memory is short the system kills a program without a word of its own."""
+    home, _, env = service(tmp_path, copy)
+    killed = tmp_path / "killed"
+    killed.write_text("#!/bin/bash\nkill -9 $$\n")
+    killed.chmod(0o755)
+    words = restore_words(copy, home, str(killed), "--front", "3")
+    done = subprocess.run(words, env=env, capture_output=True, text=True, timeout=100, check=False)
+    assert done.returncode == 1 and "could not be audited (is the disk full, or the memory?)" in done.stderr
+
+
 @pytest.mark.parametrize("name", ["", "office.db-wal", "office.db-shm", "office.db-journal"])
 def test_what_is_no_file_is_not_replaced(copy: pathlib.Path, tmp_path: pathlib.Path, program: str, name: str) -> None:
     home = tmp_path / "home"
