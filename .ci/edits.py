@@ -47,7 +47,7 @@ UNPROVED = re.compile(r"note: src/(\S+)\.rt:\d+:\d+: it is not proved that .*?\(
 # An error that says nothing of a clause: a proof names what the edit took away.
 BY_NAME = re.compile(r"has no field|is not in scope|has no `|was not admitted")
 # The goals that a line of an edit may name, by its word: those of what is promised, and those of what a call requires.
-GOALS = {"refused": re.compile(r"^(?:returns|invariant_of|loop)"), "forbidden": re.compile(r"^\w+(?:-\d+)?-requires")}
+GOALS = {"refused": re.compile(r"^(?:returns|invariant_of|loop)"), "forbidden": re.compile(r"^\w+(?:-\w+)?-requires")}
 
 
 class Edit:
