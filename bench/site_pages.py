@@ -59,7 +59,6 @@ SHAPE = r"""(() => {
   if (document.documentElement.scrollWidth > innerWidth) wrong.push(`${document.documentElement.scrollWidth} pixels wide`);
   return wrong;
 })()"""
-FETCHED = "performance.getEntriesByType('resource').reduce((all, it) => all + it.decodedBodySize, 0)"
 
 
 def check(what: str, is_right: bool, told: object = "") -> None:
@@ -189,7 +188,8 @@ def measure(browser: Browser, copy: pathlib.Path, folder: pathlib.Path) -> None:
     for text in TYPED.split():
         opened(browser, folder / "works.html", f"#{text}")
         browser.wait_for("document.querySelector('#said').textContent.includes('work')", 60)
-        most[text] = browser.value(FETCHED)
+        names = [f"find/{it}.js" for it in browser.value("[...pieces.keys()]")]
+        most[text] = sum((folder / it).stat().st_size for it in ("works.html", "works.js", "office.css", *names))
         check(
             f"{text}: as the command",
             browser.value(f"find({json.dumps(text)}).then((it) => it.length)") == len(index.find(work_search.asked([text]))),

@@ -161,7 +161,8 @@ class Explainer:
         credited = credits_of(self.copy, self.pool)
         own = dict.fromkeys(it for it, to, _ in credited if to == account and isrc in (None, it))
         if not own:
-            raise OfficeError(f"pool {self.pool} credits nothing to {account}" + (f" for {isrc}" if isrc else ""))
+            notes = "".join(f"; {it}" for it in self.ties.notes(self.pool))
+            raise OfficeError(f"pool {self.pool} credits nothing to {account}{f' for {isrc}' if isrc else ''}{notes}")
         [listed] = self.ask([Asked(self.order)])
         if credited != [(it.isrc, it.account, it.part) for it in listed]:
             raise OfficeError(f"{self.copy.path} is not sound: pool {self.pool} credits otherwise than its order says; {CURE}")

@@ -165,6 +165,8 @@ def test_a_make_up_is_explained_by_the_pool_that_it_makes_up(desk: Desk, decided
     assert told["lacked"] == [{"pool": 1, "amount": 4_240, "points": 2_120, "isrc": "ATABC2600002", "due": 240, "credited": 0}]
     assert told["notes"] == [f"pool {pool} makes up what was lacking by pool 1"] and told["credits"][0]["plays"] == []
     assert run("explain", desk.live, "UNCLAIMED", "--pool", 1).startswith("UNCLAIMED\npool 1 (Spring")
+    told = f"pool 99999 credits nothing to {ANNA}; pool 99999 corrects pool 1: amount 4,240 in the place of 2,120"
+    assert told in desk.run("explain", ANNA, "--pool", 99_999, status=1)
 
 
 def test_what_make_ups_had_paid_before_is_lacking_no_more(desk: Desk) -> None:
