@@ -326,8 +326,11 @@ def test_an_order_that_was_sent_under_a_wrong_number_counts_as_paid(desk: Desk) 
     assert "pool 3 is free" in run_errors(desk, "propose", "--amount", 5, "--no-returns")
     # The office's own returns are of no station.
     desk.run("site", "--into", desk.folder / "site")
-    stations = (desk.folder / "site/stations.html").read_text()
+    page = (desk.folder / "site/stations.html").read_text()
+    own = page.split("<h2>Returns of the office itself</h2>")[1].split("</section>")[0]
+    stations = page.replace(own, "")
     assert "RADIO1" in stations and "LATE" not in stations and "AMEND" not in stations
+    assert "LATE" in own and "AMEND" in own and "RADIO1" not in own
 
 
 def test_the_words_of_before_name_what_took_their_place(desk: Desk) -> None:
