@@ -67,6 +67,15 @@ class Copy:
         except sqlite3.DatabaseError as error:
             raise self.damaged(error) from error
 
+    def blocks(self, question: str, size: int) -> Iterator[list[Any]]:
+        """The rows that answer a question, so many at once."""
+        try:
+            cursor = self.database.execute(question)
+            while some := cursor.fetchmany(size):
+                yield some
+        except sqlite3.DatabaseError as error:
+            raise self.damaged(error) from error
+
     def listed(self, question: str, *values: Any) -> list[Any]:
         """The rows that answer a question, all at once, which is faster than one after another."""
         try:

@@ -156,10 +156,17 @@ def balance(account: str, units: int) -> Row:
 
 def unlike(one: Copy, other: Copy, question: str) -> tuple[Iterator[Any], Iterator[Any]]:
     """The rows of a table of two copies without those that both begin with: these are compared by thousands, as SQLite has them."""
-    here, there = one.rows(question), other.rows(question)
-    while (some := list(itertools.islice(here, MANY))) == (others := list(itertools.islice(there, MANY))) and some:
-        pass
-    return itertools.chain(some, here), itertools.chain(others, there)
+    here, there = one.blocks(question, MANY), other.blocks(question, MANY)
+    nothing: list[Any] = []
+    for some, others in itertools.zip_longest(here, there, fillvalue=nothing):
+        if some != others:
+            return chained(some, here), chained(others, there)
+    return iter(()), iter(())
+
+
+def chained(some: list[Any], blocks: Iterator[list[Any]]) -> Iterator[Any]:
+    """Rows, and those of the blocks behind them."""
+    return itertools.chain(some, itertools.chain.from_iterable(blocks))
 
 
 def file_name(sender: str, number: int) -> str:
