@@ -298,6 +298,19 @@ def test_a_restore_that_is_killed_leaves_a_service_that_runs(copy: pathlib.Path,
     assert done.returncode in (-signal.SIGKILL, 128 + signal.SIGKILL) and (tools / "state").read_text() == "active\n"
 
 
+def test_a_log_of_before_is_gone_before_the_copy_comes(copy: pathlib.Path, tmp_path: pathlib.Path, program: str) -> None:
+    """A restore that is killed behind its last rename leaves the copy alone: the log beside it would be another file's."""
+    home, tools, env = service(tmp_path, copy)
+    (home / "office.db").unlink()
+    (home / "office.db-wal").write_bytes(b"x" * 99)
+    where = subprocess.run(["which", "mv"], capture_output=True, text=True, check=True).stdout.strip()
+    (tools / "mv").write_text(f'#!/bin/bash\n{where} "$@"\nkill -9 $PPID\n')
+    (tools / "mv").chmod(0o755)
+    words = restore_words(copy, home, program, "--front", "3", "--port", free_port())
+    subprocess.run(words, env=env, capture_output=True, text=True, timeout=100, check=False)
+    assert (home / "office.db").exists() and not (home / "office.db-wal").exists()
+
+
 def test_a_restore_that_is_killed_while_the_service_stops(copy: pathlib.Path, tmp_path: pathlib.Path, program: str) -> None:
     """A stop that is under way goes on without the script: a start that came before it would leave the office down."""
     home, tools, env = service(tmp_path, copy)
