@@ -6,6 +6,7 @@ import pathlib
 import pytest
 from click.testing import CliRunner
 from command import run
+from society_office.book.copy import open_copy
 from society_office.book.page_sums import changed
 from society_office.closings import orders
 from society_office.commands.cli import main
@@ -38,3 +39,14 @@ def test_the_number_of_the_next_pool(copy: pathlib.Path, last: int, free: int) -
         database.execute("INSERT INTO pools VALUES (?, 0)", (last,))
     ended = CliRunner(mix_stderr=False).invoke(main, ["propose", str(copy), "--amount", "1"])
     assert f"5 senders, 2 returns; pool {free} is free" in ended.stderr.splitlines()
+
+
+def test_a_number_that_the_office_itself_has_used_is_not_free(copy: pathlib.Path) -> None:
+    """Its own pools go down from the greatest number, until they meet the others."""
+    with changed(copy) as database:
+        database.executemany("INSERT INTO pools VALUES (?, 0)", [(99_997,), (99_998,), (99_999,)])
+        for number in (99_998, 99_999):
+            database.execute("INSERT INTO returns VALUES ('LATE3F0A9C21', ?, x'')", (number,))
+            database.execute("INSERT INTO pool_returns VALUES ('LATE3F0A9C21', ?, ?)", (number, number))
+    with open_copy(copy) as opened:
+        assert orders.free_pool(opened) == 4
